@@ -1,1 +1,12 @@
+pub mod Sizes
 pub mod Basics
+pub mod Numbers
+pub mod Fields
+pub mod Needs
+pub mod JobFile
+pub mod Program
+pub mod Windows
+pub mod Preference
+pub mod Boards
+pub mod Table
+pub mod Answers

@@ -1,0 +1,10 @@
+pub mod Sets
+pub mod Tests
+pub mod Digits
+pub mod Membership
+pub mod Inclusion
+pub mod Order
+pub mod Falling
+pub mod Single
+pub mod Lowest
+pub mod Members

@@ -1,0 +1,1 @@
+-- Lowest. Assumes nothing.

@@ -1,0 +1,1 @@
+-- Members. Assumes nothing.

@@ -1,0 +1,1 @@
+-- Order. Assumes nothing.

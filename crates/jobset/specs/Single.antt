@@ -1,0 +1,1 @@
+-- Single. Assumes nothing.
