@@ -1,10 +1,11 @@
+-- The definitions (Sets) and the laws of sets, each module after those it cites. Assumes nothing.
 pub mod Sets
 pub mod Tests
 pub mod Digits
 pub mod Membership
 pub mod Inclusion
 pub mod Order
-pub mod Falling
-pub mod Single
+pub mod FallingSubsets
+pub mod OneMember
 pub mod Lowest
 pub mod Members

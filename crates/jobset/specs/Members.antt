@@ -1,1 +1,113 @@
--- Members. Assumes nothing.
+-- The list of the members of a set, and what a loop over them needs. Assumes nothing.
+use mathlib.Core.Path.{_≡_, refl, sym, ap, _∙_}
+use mathlib.Core.Bool.{Bool, true, false, not, false≢true}
+use mathlib.Core.List.{[], _∷_}
+use Prim.Native.Nat.{ℕ, zero, suc, _+_, _^_, _<_, _≤_}
+use native.Mathlib.Decide.{ℕ-discrete}
+use native.Mathlib.Omega.{arith}
+use borrow.Author.Tests.{eqb-true, not-true, not-false}
+use lib.ListN.{length}
+use Rattle.rules.specs.Basics.{choose}
+use Rattle.jobset.specs.declared.Set.{Set}
+use Rattle.jobset.specs.Sets.{member, empty, without, Subset, isEmpty, lowest, membersFrom, members}
+use Rattle.jobset.specs.Membership.{member-empty, without-same, without-other}
+use Rattle.jobset.specs.Order.{greater-iff}
+use Rattle.jobset.specs.Lowest.{below-lowest, lowest-member}
+
+-- sets with the same members from i up have the same list
+same-from : (k i : ℕ) (s t : Set) → ((j : ℕ) → i ≤ j → member s j ≡ member t j) → membersFrom k i s ≡ membersFrom k i t
+unfolding membersFrom
+same-from zero i s t h = refl
+same-from (suc k) i s t h =
+    let e = same-from k (suc i) s t (λ j l. h j (omega arith)) in
+    let f : member s i ≡ member t i = h i (omega arith) in
+    rw (e, f)
+
+-- the empty set has no members
+none-from : (k i : ℕ) → membersFrom k i empty ≡ []
+unfolding membersFrom choose
+none-from zero i = refl
+none-from (suc k) i = rw (member-empty i) (none-from k (suc i))
+
+-- the list begins with the lowest member and goes on with the others
+lowest-from : (k i : ℕ) (s : Set) → member s (lowest s) ≡ true → i ≤ lowest s → lowest s < i + k → membersFrom k i s ≡ lowest s ∷ membersFrom k i (without s (lowest s))
+unfolding membersFrom choose
+lowest-from zero i s m a b = absurd (omega arith)
+lowest-from (suc k) i s m a b = go (λ x y. lowest-from k (suc i) s m x y) (ℕ-discrete i (lowest s))
+  where
+    rest : Set
+    rest = without s (lowest s)
+
+    go : (suc i ≤ lowest s → lowest s < suc i + k → membersFrom k (suc i) s ≡ lowest s ∷ membersFrom k (suc i) rest)
+        → Dec (i ≡ lowest s) → choose (member s i) (i ∷ membersFrom k (suc i) s) (membersFrom k (suc i) s)
+        ≡ lowest s ∷ choose (member rest i) (i ∷ membersFrom k (suc i) rest) (membersFrom k (suc i) rest)
+    go ih (yes e) =
+        let f : member s i ≡ true = ap (member s) e ∙ m in
+        let g : member rest i ≡ false = ap (member rest) e ∙ without-same s (lowest s) in
+        let h = same-from k (suc i) s rest (λ j l. sym (without-other s (lowest s) j (omega arith))) in
+        rw (f, g, h) (ap (λ (n : ℕ). n ∷ membersFrom k (suc i) rest) e)
+    go ih (no n) =
+        let f : member s i ≡ false = below-lowest s i (omega arith) in
+        let g : member rest i ≡ false = without-other s (lowest s) i n ∙ f in
+        rw (f, g) (ih (omega arith) (omega arith))
+
+-- a set without one of its members has a smaller number: the measure of a loop
+without-less : (s : Set) (i : ℕ) → member s i ≡ true → without s i .bits < s .bits
+without-less s i m = greater-iff s (without s i) .1 (record {
+  place = i;
+  is-in = m;
+  not-in = without-same s i;
+  same-above = λ j l. sym (without-other s i j (omega arith));
+})
+
+-- ---- a loop over the members: it takes the lowest out until none is left
+
+-- what is known in a turn that takes the place i out of s
+pub record Turn (s : Set) (i : ℕ) : Type 0 where
+  pub below-64 : i < 64
+  pub is-member : member s i ≡ true
+  pub first : members s ≡ i ∷ members (without s i)
+  pub less : without s i .bits < s .bits
+
+-- a turn, from what the code's test `b = s.is_empty()` and its call `i = s.lowest()` say
+pub turn : (s : Set) (b : Bool) (i : ℕ) → s .bits < 2 ^ 64 → b ≡ isEmpty s → not b ≡ true → i ≡ lowest s → Turn s i
+unfolding members
+turn s b i h e n l =
+    let m = lowest-member s h (sym e ∙ not-true b n) in
+    rw (l) (record {
+      below-64 = m .0;
+      is-member = m .1;
+      first = lowest-from 64 0 s (m .1) (omega arith) (omega arith);
+      less = without-less s (lowest s) (m .1);
+    })
+
+-- what is known at the end
+pub record End (s : Set) : Type 0 where
+  pub is-empty : s ≡ empty
+  pub no-members : members s ≡ []
+
+-- the end, from what the code's test says
+pub end : (s : Set) (b : Bool) → b ≡ isEmpty s → not b ≡ false → End s
+unfolding isEmpty members
+end s b e n =
+    let z : s ≡ empty = ap (λ (x : ℕ). record { bits = x }) (eqb-true (s .bits) 0 (sym e ∙ not-false b n)) in
+    record { is-empty = z; no-members = rw (z) (none-from 64 0) }
+
+-- ---- the number of members
+
+fewer-from : (k i : ℕ) (s t : Set) → Subset s t → length (membersFrom k i s) ≤ length (membersFrom k i t)
+unfolding membersFrom Subset choose
+fewer-from zero i s t w = omega arith
+fewer-from (suc k) i s t w = go (fewer-from k (suc i) s t w) (member s i) (member t i) (w i)
+  where
+    go : length (membersFrom k (suc i) s) ≤ length (membersFrom k (suc i) t) → (a b : Bool) → (a ≡ true → b ≡ true)
+        → length (choose a (i ∷ membersFrom k (suc i) s) (membersFrom k (suc i) s)) ≤ length (choose b (i ∷ membersFrom k (suc i) t) (membersFrom k (suc i) t))
+    go h true true f = omega arith
+    go h true false f = absurd (false≢true (f refl))
+    go h false true f = omega arith
+    go h false false f = h
+
+-- a subset has no more members
+pub fewer-members : (s t : Set) → Subset s t → length (members s) ≤ length (members t)
+unfolding members
+fewer-members s t w = fewer-from 64 0 s t w

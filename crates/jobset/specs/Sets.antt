@@ -6,7 +6,7 @@ use Prim.Native.Nat.{ℕ, zero, suc, _-_, _/_, _%_, _^_}
 use lib.Bits.{bitAnd, bitOr, bitXor}
 use lib.Count.{trailingZeros}
 use lib.Dec.{eqb}
-use Rattle.rules.specs.Basics.{choose}
+use Rattle.rules.specs.Basics.{choose, at}
 use Rattle.jobset.specs.declared.Set.{Set}
 
 -- the binary digit of n at place j
@@ -16,6 +16,10 @@ digit n j = n / 2 ^ j % 2
 -- j is a member of s
 unfoldable pub member : Set → ℕ → Bool
 member s j = eqb (digit (s .bits) j) 1
+
+-- the set in entry i of an array of sets
+abbrev pub setAt : List ℕ → ℕ → Set
+setAt l i = record { bits = at l i }
 
 -- the set with no member
 abbrev pub empty : Set

@@ -1,3 +1,21 @@
+-- The laws of the rules: a small library first, then a file for each subject.
 pub mod Tests
 pub mod Lists
 pub mod Counting
+pub mod Numbers
+pub mod Fields
+pub mod JobFile
+pub mod Program
+pub mod Degrees
+pub mod Circles
+pub mod Releases
+pub mod Deadlines
+pub mod Width
+pub mod Lexicographic
+pub mod Preference
+pub mod Best
+pub mod BoardRules
+pub mod BoardStep
+pub mod BoardSlots
+pub mod BoardLaws
+pub mod Table

@@ -117,3 +117,13 @@ pub by-choice : {A : Type 0} (P : A → Type 0) (b : Bool) {x y : A} → (T b �
 unfolding choose
 by-choice P true f g = f tt
 by-choice P false f g = g (λ h. h)
+
+-- the side that a choice takes
+pub choose-yes : {A : Type 0} (b : Bool) (x y : A) → T b → choose b x y ≡ x
+unfolding choose
+choose-yes true x y t = refl
+
+pub choose-no : {A : Type 0} (b : Bool) (x y : A) → (T b → ⊥) → choose b x y ≡ y
+unfolding choose
+choose-no true x y n = absurd (n tt)
+choose-no false x y n = refl

@@ -1,1 +1,0 @@
--- Single. Assumes nothing.

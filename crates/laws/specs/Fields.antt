@@ -1,0 +1,92 @@
+-- Answers, fields of a file, and reading them one after the other. Assumes nothing.
+use mathlib.Core.Path.{_≡_, refl, ap, subst}
+use mathlib.Core.Logic.{_↔_}
+use mathlib.Core.Bool.{Bool, true, false}
+use mathlib.Core.List.{List}
+use Prim.Native.Nat.{ℕ, zero, suc, _+_, _-_, _≤_, _<_}
+use native.Mathlib.Omega.{arith}
+use borrow.Author.Tests.{lt-ltb, le-ltb}
+use lib.ListN.{length, take, drop, length-take, length-drop}
+use lib.Dec.{T, leb, ltb}
+use Rattle.rules.specs.Basics.{choose}
+use Rattle.rules.specs.Fields.{Answer, refused, got, ask, after, part, fieldEnd, value, whole, overFields}
+use Rattle.rules.specs.Numbers.{Bytes}
+use Rattle.laws.specs.Tests.{tests}
+use Rattle.laws.specs.Numbers.{bytes-take, bytes-drop}
+
+-- ---- answers
+
+-- where an answer is not a refusal, the question before it was answered yes
+pub ask-got : {A : Type 0} (b : Bool) (q : ℕ) (r : Answer A) (a : A) → ask b q r ≡ got a → T b × (r ≡ got a)
+unfolding ask
+ask-got true q r a e = (tt, e)
+ask-got false q r a e = absurd (let z : _≡_ {A = ℕ} 0 1 = cc in omega arith)
+
+pub after-got : {A B : Type 0} (r : Answer A) (f : A → Answer B) (b : B) → after r f ≡ got b → (a : A) × (r ≡ got a) × (f a ≡ got b)
+unfolding after
+after-got (refused q) f b e = absurd (let z : _≡_ {A = ℕ} 0 1 = cc in omega arith)
+after-got (got a) f b e = (a, refl, e)
+
+pub ask-yes : {A : Type 0} (b : Bool) (q : ℕ) (r : Answer A) → T b → ask b q r ≡ r
+unfolding ask
+ask-yes true q r t = refl
+
+pub ask-no : {A : Type 0} (b : Bool) (q : ℕ) (r : Answer A) → (T b → ⊥) → ask b q r ≡ refused q
+unfolding ask
+ask-no true q r n = absurd (n tt)
+ask-no false q r n = refl
+
+-- ---- one field
+
+pub whole-is : (bs : List ℕ) (a : ℕ) → T (whole bs a) ↔ ((a + 3 ≤ length bs) × (fieldEnd bs a ≤ length bs))
+unfolding whole
+whole-is bs a = (λ h. simp tests at h, λ h. simp tests h)
+
+pub after-head : (bs : List ℕ) (a : ℕ) → a + 3 ≤ fieldEnd bs a
+unfolding fieldEnd
+after-head bs a = omega arith
+
+pub length-value : (bs : List ℕ) (a : ℕ) → T (whole bs a) → length (value bs a) ≡ fieldEnd bs a - (a + 3)
+unfolding value part
+length-value bs a h = let w = whole-is bs a .0 h in simp (length-take, length-drop) (omega arith)
+
+pub bytes-value : (bs : List ℕ) (a : ℕ) → Bytes bs → Bytes (value bs a)
+unfolding value part
+bytes-value bs a h = bytes-take (fieldEnd bs a - (a + 3)) (drop (a + 3) bs) (bytes-drop (a + 3) bs h)
+
+-- ---- all fields
+
+module _ {A : Type 0} (step : A → ℕ → Answer A) where
+  -- the field at a, and what follows it
+  pub overFields-step : (k : ℕ) (bs : List ℕ) (a : ℕ) (s : A) → a < length bs → length bs - a ≤ k
+      → (j : ℕ) × (length bs - fieldEnd bs a ≤ j) × (overFields step k bs a s ≡ after (step s a) (λ t. overFields step j bs (fieldEnd bs a) t))
+  unfolding overFields choose
+  overFields-step zero bs a s h l = absurd (omega arith)
+  overFields-step (suc k) bs a s h l = (k, omega (arith, after-head bs a), simp (lt-ltb a (length bs) h))
+
+  pub overFields-end : (k : ℕ) (bs : List ℕ) (a : ℕ) (s : A) → length bs ≤ a → overFields step k bs a s ≡ got s
+  unfolding overFields choose
+  overFields-end zero bs a s h = refl
+  overFields-end (suc k) bs a s h = simp (le-ltb a (length bs) h)
+
+  -- the bound on the number of fields is never met
+  pub overFields-enough : (k : ℕ) (bs : List ℕ) (a : ℕ) (s : A) → length bs - a ≤ k → overFields step (suc k) bs a s ≡ overFields step k bs a s
+  unfolding overFields choose after
+  overFields-enough zero bs a s l = simp (le-ltb a (length bs) (omega arith))
+  overFields-enough (suc k) bs a s l = go (step s a) (λ t. overFields-enough k bs (fieldEnd bs a) t)
+    where
+      go : (r : Answer A) → ((t : A) → length bs - fieldEnd bs a ≤ k → overFields step (suc k) bs (fieldEnd bs a) t ≡ overFields step k bs (fieldEnd bs a) t)
+          → choose (ltb a (length bs)) (after r (λ t. overFields step (suc k) bs (fieldEnd bs a) t)) (got s) ≡ choose (ltb a (length bs)) (after r (λ t. overFields step k bs (fieldEnd bs a) t)) (got s)
+      go (refused q) f = refl
+      go (got t) f = ap (λ (r : Answer A). choose (ltb a (length bs)) r (got s)) (f t (omega (arith, after-head bs a)))
+
+  -- what each field keeps, all of them keep
+  pub overFields-keeps : (P : A → Type 0) → ((s t : A) (a : ℕ) → P s → step s a ≡ got t → P t)
+      → (k : ℕ) (bs : List ℕ) (a : ℕ) (s t : A) → P s → overFields step k bs a s ≡ got t → P t
+  unfolding overFields choose
+  overFields-keeps P keeps zero bs a s t p e = let q : s ≡ t = cc in subst P q p
+  overFields-keeps P keeps (suc k) bs a s t p e = go (ltb a (length bs)) e (λ u q. overFields-keeps P keeps k bs (fieldEnd bs a) u t q)
+    where
+      go : (b : Bool) → choose b (after (step s a) (λ t. overFields step k bs (fieldEnd bs a) t)) (got s) ≡ got t → ((u : A) → P u → overFields step k bs (fieldEnd bs a) u ≡ got t → P t) → P t
+      go true e r = let w = after-got (step s a) (λ t. overFields step k bs (fieldEnd bs a) t) t e in r (w .0) (keeps s (w .0) a p (w .1)) (w .2)
+      go false e r = let q : s ≡ t = cc in subst P q p
