@@ -9,3 +9,4 @@ pub mod FallingSubsets
 pub mod OneMember
 pub mod Lowest
 pub mod Members
+pub mod Arrays
