@@ -1,15 +1,15 @@
 -- Lists: membership, ranges, filtering, tabulating. Assumes nothing.
-use mathlib.Core.Path.{_≡_, refl, ap, _∙_}
+use mathlib.Core.Path.{_≡_, refl, sym, ap, _∙_}
 use mathlib.Core.Logic.{_⊎_, inl, inr}
-use mathlib.Core.Bool.{Bool, true, false}
-use mathlib.Core.List.{List, [], _∷_, _++_, map, List·Memᴰ, List·Memᴰ·head, List·Memᴰ·tail, List·Memᴰ·cases-cons, List·Memᴰ·not-nil, List·Memᴰ·append-cases}
+use mathlib.Core.Bool.{Bool, true, false, _||_, or-false, or-assoc}
+use mathlib.Core.List.{List, [], _∷_, _++_, map, List·Memᴰ, List·Memᴰ·head, List·Memᴰ·tail, List·Memᴰ·cases-cons, List·Memᴰ·not-nil}
 use Prim.Native.Nat.{ℕ, zero, suc, _+_, _≤_, _<_}
 use native.Mathlib.Omega.{arith}
 use native.Mathlib.Decide.{ℕ-discrete}
 use native.Mathlib.Nat.{add-zero}
 use lib.ListN.{length, getD}
 use lib.Dec.{T}
-use Rattle.rules.specs.Basics.{choose, has, filter, range, tabulate}
+use Rattle.rules.specs.Basics.{choose, any, has, filter, range, tabulate}
 use Rattle.laws.specs.Tests.{T-has, by-test}
 
 -- every member of S is one of xs
@@ -113,3 +113,10 @@ pub length-tabulate : {A : Type 0} (f : ℕ → A) (k j : ℕ) → length (tabul
 unfolding tabulate
 length-tabulate f zero j = refl
 length-tabulate f (suc k) j = ap suc (length-tabulate f k (suc j))
+
+-- ---- one entry more at the end
+
+pub any-snoc : {A : Type 0} (p : A → Bool) (xs : List A) (x : A) → any p (xs ++ x ∷ []) ≡ (any p xs || p x)
+unfolding any
+any-snoc p [] x = or-false (p x)
+any-snoc p (y ∷ xs) x = ap (λ (b : Bool). p y || b) (any-snoc p xs x) ∙ sym (or-assoc (p y) (any p xs) (p x))

@@ -1,0 +1,132 @@
+-- `jobfile::field_at` meets its contract. Assumes nothing.
+use mathlib.Core.Path.{_∙_, sym}
+use Prim.Native.Nat.{_+_}
+use native.Mathlib.Omega.{arith}
+use borrow.Author.Tests.{not-true, not-false}
+use borrow.Author.Needs.{needs}
+use Rattle.jobfile.specs.FieldWays.{short-head, short-value, low-tag, high-tag, misplaced, too-short, too-long, found}
+use Rattle.jobfile.proofs.field_at.Statement.{statement}
+use Rattle.jobfile.proofs.field_at.Tie as tie
+
+sub-if1 : tie.Need-sub-if1
+sub-if1 c = search needs
+
+returns : tie.Need-returns
+returns c =
+    short-head _ _ _ (c .before .before .pre) (c .if1 .taken)
+
+shared-slice-read-tag : tie.Need-shared-slice-read-tag
+shared-slice-read-tag c = search needs
+
+add-wide : tie.Need-add-wide
+add-wide c = search needs
+
+shared-slice-read-wide : tie.Need-shared-slice-read-wide
+shared-slice-read-wide c = search needs
+
+wide-requires : tie.Need-wide-requires
+wide-requires c κs = search needs
+
+add-wide-2 : tie.Need-add-wide-2
+add-wide-2 c = search needs
+
+shared-slice-read-wide-2 : tie.Need-shared-slice-read-wide-2
+shared-slice-read-wide-2 c = search needs
+
+wide-requires-2 : tie.Need-wide-requires-2
+wide-requires-2 c κs = search needs
+
+mul-len : tie.Need-mul-len
+mul-len c =
+    omega (arith, c .before .shared-slice-known4 .given (c .before .before .before .before .before .before .before .args .at + 2))
+
+add-len : tie.Need-add-len
+add-len c =
+    omega (arith, c .before .shared-slice-known4 .given (c .before .before .before .before .before .before .before .args .at + 2), c .before .before .before .shared-slice-known3 .given (c .before .before .before .before .before .before .before .args .at + 1))
+
+add-start : tie.Need-add-start
+add-start c = search needs
+
+sub-if2 : tie.Need-sub-if2
+sub-if2 c = search needs
+
+returns-2 : tie.Need-returns-2
+returns-2 c =
+    short-value _ _ _ _ _ (c .before .before .before .wide .ensures) (c .before .wide2 .ensures) (c .before .before .before .before .before .before .if1 .left) (c .if2 .taken)
+
+returns-3 : tie.Need-returns-3
+returns-3 c =
+    low-tag _ _ _ _ _ (c .before .before .before .before .wide .ensures) (c .before .before .wide2 .ensures) (c .before .before .before .before .before .before .before .if1 .left) (c .before .if2 .left) (c .if3 .taken)
+
+returns-4 : tie.Need-returns-4
+returns-4 c =
+    high-tag _ _ _ _ _ (c .before .before .before .before .before .wide .ensures) (c .before .before .before .wide2 .ensures) (c .before .before .before .before .before .before .before .before .if1 .left) (c .before .before .if2 .left) (c .if4 .taken)
+
+in-place-requires : tie.Need-in-place-requires
+in-place-requires c κs = search needs
+
+returns-5 : tie.Need-returns-5
+returns-5 c =
+    misplaced _ _ _ _ _ (c .before .before .before .before .before .before .before .wide .ensures) (c .before .before .before .before .before .wide2 .ensures) (c .before .before .before .before .before .before .before .before .before .before .if1 .left) (c .before .before .before .before .if2 .left) (c .before .before .before .if3 .left) (c .before .before .if4 .left) (sym (c .before .in-place .ensures) ∙ not-true _ (c .if5 .taken))
+
+cast-i : tie.Need-cast-i
+cast-i c = search needs
+
+mul-row : tie.Need-mul-row
+mul-row c = search needs
+
+array-copy-out-row : tie.Need-array-copy-out-row
+array-copy-out-row c = search needs
+
+cast-least : tie.Need-cast-least
+cast-least c = search needs
+
+cast-most : tie.Need-cast-most
+cast-most c = search needs
+
+returns-6 : tie.Need-returns-6
+returns-6 c =
+    too-short _ _ _ _ _ (c .before .before .before .before .before .before .before .before .before .before .before .wide .ensures) (c .before .before .before .before .before .before .before .before .before .wide2 .ensures) (c .before .before .before .before .before .before .before .before .before .before .before .before .before .before .if1 .left) (c .before .before .before .before .before .before .before .before .if2 .left) (c .before .before .before .before .before .before .before .if3 .left) (c .before .before .before .before .before .before .if4 .left) (sym (c .before .before .before .before .before .in-place .ensures) ∙ not-false _ (c .before .before .before .before .if5 .left)) _ (c .if6 .taken)
+
+returns-7 : tie.Need-returns-7
+returns-7 c =
+    too-long _ _ _ _ _ (c .before .before .before .before .before .before .before .before .before .before .before .before .wide .ensures) (c .before .before .before .before .before .before .before .before .before .before .wide2 .ensures) (c .before .before .before .before .before .before .before .before .before .before .before .before .before .before .before .if1 .left) (c .before .before .before .before .before .before .before .before .before .if2 .left) (c .before .before .before .before .before .before .before .before .if3 .left) (c .before .before .before .before .before .before .before .if4 .left) (sym (c .before .before .before .before .before .before .in-place .ensures) ∙ not-false _ (c .before .before .before .before .before .if5 .left)) _ (c .if7 .taken)
+
+add-t16 : tie.Need-add-t16
+add-t16 c = search needs
+
+returns-8 : tie.Need-returns-8
+returns-8 c =
+    found _ _ _ _ _ (c .before .before .before .before .before .before .before .before .before .before .before .before .wide .ensures) (c .before .before .before .before .before .before .before .before .before .before .wide2 .ensures) (c .before .before .before .before .before .before .before .before .before .before .before .before .before .before .before .if1 .left) (c .before .before .before .before .before .before .before .before .before .if2 .left) (c .before .before .before .before .before .before .before .before .if3 .left) (c .before .before .before .before .before .before .before .if4 .left) (sym (c .before .before .before .before .before .before .in-place .ensures) ∙ not-false _ (c .before .before .before .before .before .if5 .left)) _ (c .before .if6 .left) (c .if7 .left)
+
+pub field-at-spec : {M : Type 1} → statement M
+field-at-spec =
+    tie.close
+    (tie.spec
+    sub-if1
+    returns
+    shared-slice-read-tag
+    add-wide
+    shared-slice-read-wide
+    wide-requires
+    add-wide-2
+    shared-slice-read-wide-2
+    wide-requires-2
+    mul-len
+    add-len
+    add-start
+    sub-if2
+    returns-2
+    returns-3
+    returns-4
+    in-place-requires
+    returns-5
+    cast-i
+    mul-row
+    array-copy-out-row
+    cast-least
+    cast-most
+    returns-6
+    returns-7
+    add-t16
+    returns-8)

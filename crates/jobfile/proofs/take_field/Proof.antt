@@ -1,0 +1,110 @@
+-- `jobfile::take_field` meets its contract. Assumes nothing.
+use mathlib.Core.Path.{sym, _∙_}
+use native.Mathlib.Omega.{arith}
+use borrow.Author.Tests.{not-true, not-false, eq-eqb, ne-eqb, lt-ltb, le-ltb}
+use borrow.Author.Needs.{needs}
+use Rattle.rules.specs.JobFile.{fieldRows, rowOf}
+use Rattle.rules.specs.Fields.{ask}
+use Rattle.rules.specs.Basics.{choose}
+use Rattle.jobfile.specs.Reading.{answerOf, takeField}
+use Rattle.jobfile.specs.Values.{value-long}
+use Rattle.jobfile.specs.NeedWays.{answer-refused}
+use Rattle.jobfile.proofs.take_field.Statement.{statement}
+use Rattle.jobfile.proofs.take_field.Tie as tie
+
+content-ok-requires : tie.Need-content-ok-requires
+content-ok-requires c κs = search needs
+
+refused-requires : tie.Need-refused-requires
+refused-requires c κs = search needs
+
+returns : tie.Need-returns
+unfolding takeField ask
+returns c =
+    answer-refused _ 6 _ _ _ (c .refused .ensures) (λ e. omega arith) ∙ simp (sym (c .before .before .content-ok .ensures) ∙ not-true _ (c .before .if1 .taken))
+
+add-t11 : tie.Need-add-t11
+add-t11 c = search needs
+
+shared-slice-read-wide : tie.Need-shared-slice-read-wide
+unfolding rowOf fieldRows
+shared-slice-read-wide c =
+    omega (arith, value-long 2 _ _ (c .before .before .if2 .taken) (c .before .before .before .before .before .before .pre .4))
+
+wide-requires : tie.Need-wide-requires
+wide-requires c κs = search needs
+
+returns-2 : tie.Need-returns-2
+unfolding answerOf takeField ask choose
+returns-2 c =
+    simp (sym (c .before .before .before .before .before .content-ok .ensures) ∙ not-false _ (c .before .before .before .before .if1 .left), eq-eqb _ _ (c .before .before .before .if2 .taken), c .wide .ensures)
+
+refused-requires-2 : tie.Need-refused-requires-2
+refused-requires-2 c κs = search needs
+
+returns-3 : tie.Need-returns-3
+unfolding takeField ask choose
+returns-3 c =
+    answer-refused _ 7 _ _ _ (c .refused2 .ensures) (λ e. omega arith) ∙ simp (sym (c .before .before .before .before .before .content-ok .ensures) ∙ not-false _ (c .before .before .before .before .if1 .left), ne-eqb _ _ (c .before .before .before .if2 .left), eq-eqb _ _ (c .before .before .if3 .taken), le-ltb _ _ (c .before .if4 .taken))
+
+cast-offsets : tie.Need-cast-offsets
+cast-offsets c = search needs
+
+mul-offsets : tie.Need-mul-offsets
+mul-offsets c = search needs
+
+element-write-offsets : tie.Need-element-write-offsets
+element-write-offsets c = search needs
+
+add-t17 : tie.Need-add-t17
+add-t17 c = search needs
+
+add-t20 : tie.Need-add-t20
+add-t20 c = search needs
+
+returns-4 : tie.Need-returns-4
+unfolding answerOf takeField ask choose
+returns-4 c =
+    simp (sym (c .before .before .before .before .before .content-ok .ensures) ∙ not-false _ (c .before .before .before .before .if1 .left), ne-eqb _ _ (c .before .before .before .if2 .left), eq-eqb _ _ (c .before .before .if3 .taken), lt-ltb _ _ (c .before .if4 .left))
+
+take-need-requires : tie.Need-take-need-requires
+unfolding rowOf fieldRows
+take-need-requires c κs =
+    let h = value-long 4 _ _ (c .before .before .if5 .taken) (c .before .before .before .before .before .before .before .before .pre .4) in search needs
+
+returns-5 : tie.Need-returns-5
+unfolding takeField ask choose
+returns-5 c =
+    c .take-need .ensures _ ∙ simp (sym (c .before .before .before .before .before .before .before .content-ok .ensures) ∙ not-false _ (c .before .before .before .before .before .before .if1 .left), ne-eqb _ _ (c .before .before .before .before .before .if2 .left), ne-eqb _ _ (c .before .before .before .before .if3 .left), eq-eqb _ _ (c .before .before .before .if5 .taken))
+
+add-t23 : tie.Need-add-t23
+add-t23 c = search needs
+
+returns-6 : tie.Need-returns-6
+unfolding answerOf takeField ask choose
+returns-6 c =
+    simp (sym (c .before .before .before .before .before .content-ok .ensures) ∙ not-false _ (c .before .before .before .before .if1 .left), ne-eqb _ _ (c .before .before .before .if2 .left), ne-eqb _ _ (c .before .before .if3 .left), ne-eqb _ _ (c .before .if5 .left))
+
+pub take-field-spec : {M : Type 1} → statement M
+take-field-spec =
+    tie.close
+    (tie.spec
+    content-ok-requires
+    refused-requires
+    returns
+    add-t11
+    shared-slice-read-wide
+    wide-requires
+    returns-2
+    refused-requires-2
+    returns-3
+    cast-offsets
+    mul-offsets
+    element-write-offsets
+    add-t17
+    add-t20
+    returns-4
+    take-need-requires
+    returns-5
+    add-t23
+    returns-6)

@@ -1,0 +1,62 @@
+-- The ways out of the readers of a need and of a field, by what they have tested. Assumes nothing.
+use mathlib.Core.Path.{_≡_, refl, sym, ap, ap₂, _∙_}
+use mathlib.Core.Bool.{true, false}
+use mathlib.Core.List.{List}
+use Prim.Native.Nat.{ℕ, _-_, _≤_}
+use borrow.Author.Tests.{eq-eqb, ne-eqb}
+use Rattle.rules.specs.Basics.{choose}
+use Rattle.rules.specs.Fields.{refused, got, ask}
+use Rattle.rules.specs.JobFile.{isJob}
+use Rattle.laws.specs.Tests.{tests, T-true}
+use Rattle.jobset.specs.Sets.{member, setAt}
+use Rattle.jobfile.specs.declared.Counts.{Counts}
+use Rattle.jobfile.specs.Reading.{State, stateOf, answerOf, linked, takeNeed}
+
+-- ---- what counts say
+
+pub answer-refused : (c : Counts) (q : ℕ) (o g t : List ℕ) → c .number ≡ q → (q ≡ 0 → ⊥) → answerOf c o g t ≡ refused q
+unfolding answerOf choose
+answer-refused c q o g t e n = simp (e, ne-eqb q 0 n)
+
+pub answer-got : (c : Counts) (o g t : List ℕ) → c .number ≡ 0 → answerOf c o g t ≡ got (stateOf c o g t)
+unfolding answerOf choose
+answer-got c o g t e = simp (eq-eqb (c .number) 0 e)
+
+pub is-job-in : (n g : ℕ) → isJob n g ≡ true → (1 ≤ g) × (g ≤ n)
+unfolding isJob
+is-job-in n g e = simp tests at (T-true (isJob n g) .1 e)
+
+-- ---- a need
+
+module _ (s : State) (g k : ℕ) where
+  pub no-giver : isJob (s .jobs) g ≡ false → takeNeed s g k ≡ refused 8
+  unfolding takeNeed ask
+  no-giver e = rw e refl
+
+  module _ (giver : isJob (s .jobs) g ≡ true) where
+    pub no-taker : isJob (s .jobs) k ≡ false → takeNeed s g k ≡ refused 8
+    unfolding takeNeed ask
+    no-taker e = rw (giver, e) refl
+
+    module _ (taker : isJob (s .jobs) k ≡ true) where
+      pub same-job : g ≡ k → takeNeed s g k ≡ refused 8
+      unfolding takeNeed ask
+      same-job e = simp (giver, taker, eq-eqb g k e)
+
+      module _ (other : g ≡ k → ⊥) where
+        pub known-need : member (setAt (s .givers) (63 - (k - 1))) (63 - (g - 1)) ≡ true → takeNeed s g k ≡ refused 9
+        unfolding takeNeed ask
+        known-need e = simp (giver, taker, ne-eqb g k other, e)
+
+        pub new-need : member (setAt (s .givers) (63 - (k - 1))) (63 - (g - 1)) ≡ false → takeNeed s g k ≡ got (linked s (g - 1) (k - 1))
+        unfolding takeNeed ask
+        new-need e = simp (giver, taker, ne-eqb g k other, e)
+
+-- ---- the reader's answer, where x and y are the two bytes v and w
+
+module _ (c : Counts) (o g t : List ℕ) (x y v w : ℕ) (first : x ≡ v) (second : y ≡ w) (d : Counts) (h u : List ℕ) where
+  pub need-refused : (q : ℕ) → takeNeed (stateOf c o g t) x y ≡ refused q → d .number ≡ q → (q ≡ 0 → ⊥) → answerOf d o h u ≡ takeNeed (stateOf c o g t) v w
+  need-refused q e n z = answer-refused d q o h u n z ∙ sym e ∙ ap₂ (takeNeed (stateOf c o g t)) first second
+
+  pub need-taken : (s : State) → takeNeed (stateOf c o g t) x y ≡ got s → d .number ≡ 0 → stateOf d o h u ≡ s → answerOf d o h u ≡ takeNeed (stateOf c o g t) v w
+  need-taken s e n q = answer-got d o h u n ∙ ap got q ∙ sym e ∙ ap₂ (takeNeed (stateOf c o g t)) first second

@@ -1,0 +1,101 @@
+-- What each function of the reader gives, over the arrays that it fills. Assumes nothing.
+use mathlib.Core.Path.{_≡_}
+use mathlib.Core.Bool.{not, _&&_}
+use mathlib.Core.List.{List}
+use Prim.Native.Nat.{ℕ, _+_, _-_, _≤_, _<_}
+use lib.ListN.{length, set}
+use lib.Dec.{T, ltb, eqb}
+use Rattle.rules.specs.Basics.{choose, at}
+use Rattle.rules.specs.Fields.{Answer, refused, got, ask, numberOf, fieldEnd, value, whole}
+use Rattle.rules.specs.JobFile.{JobFile, nthJob, knownTag, inPlace, lengthOk, contentOk, jobOf, isJob, readFile}
+use Rattle.jobset.specs.Sets.{member, setAt, with}
+use Rattle.jobset.specs.Arrays.{GiversAre, TakersAre}
+use Rattle.jobfile.specs.declared.FieldAnswer.{FieldAnswer}
+use Rattle.jobfile.specs.declared.FieldAnswer.the-variants.{Field, Refused}
+use Rattle.jobfile.specs.declared.Counts.{Counts}
+use Rattle.jobfile.specs.declared.JobFile as code
+
+-- the number of a refusal; 0 for a field
+abbrev pub refusalOf : FieldAnswer → ℕ
+refusalOf (Field t s e) = 0
+refusalOf (Refused q) = q
+
+-- questions 3 to 5 of the field at offset a behind `fields` others, and 6 of its length
+unfoldable pub fieldAt : List ℕ → ℕ → ℕ → FieldAnswer
+fieldAt bs a fields =
+    choose (whole bs a)
+    (choose (knownTag (at bs a))
+    (choose (inPlace fields (at bs a))
+    (choose (lengthOk (at bs a) (length (value bs a))) (Field (at bs a) (a + 3) (fieldEnd bs a)) (Refused 6)) (Refused 5)) (Refused 4)) (Refused 3)
+
+-- what the code has read so far: counts, and the arrays of the job fields' offsets, of givers and of takers
+pub record State : Type 0 where
+  pub fields : ℕ
+  pub limit : ℕ
+  pub jobs : ℕ
+  pub offsets : List ℕ
+  pub givers : List ℕ
+  pub takers : List ℕ
+
+abbrev pub stateOf : Counts → List ℕ → List ℕ → List ℕ → State
+stateOf c o g t = record { fields = c .fields; limit = c .limit; jobs = c .jobs; offsets = o; givers = g; takers = t }
+
+-- the counts with number 0 say that all is well
+unfoldable pub answerOf : Counts → List ℕ → List ℕ → List ℕ → Answer State
+answerOf c o g t = choose (eqb (c .number) 0) (got (stateOf c o g t)) (refused (c .number))
+
+-- the need from job g to job k, both from 0, in both arrays of sets
+unfoldable pub linked : State → ℕ → ℕ → State
+linked s g k = record {
+  fields = s .fields + 1;
+  limit = s .limit;
+  jobs = s .jobs;
+  offsets = s .offsets;
+  givers = set (s .givers) (63 - k) (with (setAt (s .givers) (63 - k)) (63 - g) .bits);
+  takers = set (s .takers) (63 - g) (with (setAt (s .takers) (63 - g)) (63 - k) .bits);
+}
+
+-- questions 8 and 9 of a need between the jobs with the numbers g and k
+unfoldable pub takeNeed : State → ℕ → ℕ → Answer State
+takeNeed s g k =
+    ask (isJob (s .jobs) g && (isJob (s .jobs) k && not (eqb g k))) 8
+    (ask (not (member (setAt (s .givers) (63 - (k - 1))) (63 - (g - 1)))) 9 (got (linked s (g - 1) (k - 1))))
+
+-- the rest of question 6, and 7 to 9, of the field at offset a with tag and value
+unfoldable pub takeField : State → ℕ → ℕ → List ℕ → Answer State
+takeField s tag a v =
+    ask (contentOk tag v) 6
+    (choose (eqb tag 2) (got (record { fields = s .fields + 1; limit = at v 0; jobs = s .jobs; offsets = s .offsets; givers = s .givers; takers = s .takers }))
+    (choose (eqb tag 3)
+    (ask (ltb (s .jobs) 64) 7 (got (record { fields = s .fields + 1; limit = s .limit; jobs = s .jobs + 1; offsets = set (s .offsets) (s .jobs) a; givers = s .givers; takers = s .takers })))
+    (choose (eqb tag 4) (takeNeed s (at v 0) (at v 1))
+    (got (record { fields = s .fields + 1; limit = s .limit; jobs = s .jobs; offsets = s .offsets; givers = s .givers; takers = s .takers })))))
+
+-- question 10 of the counts at the end
+unfoldable pub completeNumber : Counts → ℕ
+completeNumber c = choose (eqb (c .number) 0) (choose (ltb (c .fields) 2) 10 (choose (ltb (c .jobs) 1) 10 0)) (c .number)
+
+-- the state holds what the rules' reading of the bytes has read
+pub record Held (bs : List ℕ) (f : JobFile) (s : State) : Type 0 where
+  pub fields-is : s .fields ≡ f .fields
+  pub limit-is : s .limit ≡ f .limit
+  pub jobs-is : s .jobs ≡ length (f .jobs)
+  pub few : s .jobs ≤ 64
+  pub sizes : (length (s .offsets) ≡ 64) × (length (s .givers) ≡ 64) × (length (s .takers) ≡ 64)
+  pub offsets-whole : (i : ℕ) → i < s .jobs → T (whole bs (at (s .offsets) i))
+  pub offsets-are : (i : ℕ) → i < s .jobs → jobOf (value bs (at (s .offsets) i)) ≡ nthJob (f .jobs) i
+  pub givers-are : GiversAre (s .givers) (f .needs)
+  pub takers-are : TakersAre (s .takers) (f .needs)
+
+-- both refuse by the same question, or the state holds the file
+unfoldable pub Same : List ℕ → Answer JobFile → Answer State → Type 0
+Same bs (refused p) (refused q) = p ≡ q
+Same bs (refused p) (got s) = ⊥
+Same bs (got f) (refused q) = ⊥
+Same bs (got f) (got s) = Held bs f s
+
+-- the answer is the rules' reading: the same number, and what a readable file says
+pub record Reads (bs : List ℕ) (r : code.JobFile) : Type 0 where
+  pub number-is : r .number ≡ numberOf (readFile bs)
+  pub held : (f : JobFile) → readFile bs ≡ got f
+      → Held bs f (record { fields = f .fields; limit = r .limit; jobs = r .jobs; offsets = r .offsets; givers = r .givers; takers = r .takers })

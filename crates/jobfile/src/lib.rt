@@ -1,0 +1,372 @@
+// The job file, read field by field: questions 2 to 10 of document 01.
+//
+// Jobs are counted from 0 here. In sets, and in the arrays of sets, job i stands at place 63 - i (crate jobset).
+use jobset::Set;
+ghost use mathlib.Core.Path.{_≡_};
+ghost use mathlib.Core.List.{List};
+ghost use Prim.Native.Nat.{ℕ, _<_, _≤_};
+ghost use lib.ListN.{length, drop};
+ghost use lib.Dec.{T};
+ghost use Rattle.rules.specs.Basics.{at, all};
+ghost use Rattle.rules.specs.JobFile.{nameByte, inPlace, lengthOk, contentOk, isJob};
+ghost use Rattle.rules.specs.JobFile.{noFields};
+ghost use Rattle.jobfile.specs.Reading.{fieldAt, refusalOf, stateOf, answerOf, takeNeed, takeField, completeNumber, Held, Same, Reads};
+ghost use Rattle.jobfile.specs.FieldByField.{allFields};
+
+// A row of the table of fields: a tag with its shortest and longest value.
+pub struct Row {
+    pub tag: u8,
+    pub least: u16,
+    pub most: u16,
+}
+
+// Header, limit, job, need, comment.
+pub const ROWS: [Row; 5] = [
+    Row {
+        tag: 1,
+        least: 1,
+        most: 1,
+    },
+    Row {
+        tag: 2,
+        least: 1,
+        most: 1,
+    },
+    Row {
+        tag: 3,
+        least: 3,
+        most: 14,
+    },
+    Row {
+        tag: 4,
+        least: 2,
+        most: 2,
+    },
+    Row {
+        tag: 5,
+        least: 0,
+        most: 65535,
+    },
+];
+
+// A field, its value from start to before end; or the number of the question that said no.
+pub enum FieldAnswer {
+    Field { tag: u8, start: usize, end: usize },
+    Refused(u8),
+}
+
+// How much has been read, with number 0; or the number of the question that said no.
+pub struct Counts {
+    pub number: u8,
+    pub fields: usize,
+    pub limit: usize,
+    pub jobs: usize,
+}
+
+// What a readable file says, with number 0; or the number of the question that said no.
+// offsets: where the field of each job starts, by job. givers and takers: the sets of each job, by place.
+pub struct JobFile {
+    pub number: u8,
+    pub limit: usize,
+    pub jobs: usize,
+    pub offsets: [u16; 64],
+    pub givers: [u64; 64],
+    pub takers: [u64; 64],
+}
+
+fn wide(b: u8) -> usize
+    ensures { λ r. ⌜ r ≡ b ⌝ }
+{
+    b as usize
+}
+
+// Question 5.
+fn in_place(fields: usize, tag: u8) -> bool
+    ensures { λ r. ⌜ r ≡ inPlace fields tag ⌝ }
+{
+    if fields == 0 {
+        return tag == 1;
+    }
+    if fields == 1 {
+        return tag == 2;
+    }
+    3 <= tag
+}
+
+// The field at offset `at` behind `fields` others: questions 3 to 5, and 6 of its length.
+pub fn field_at(file: &[u8], at: usize, fields: usize) -> FieldAnswer
+    requires { ⌜ at < length (now file) ⌝ }
+    ensures { λ r. ⌜ r ≡ fieldAt (now (file .entry)) at fields ⌝ }
+{
+    let n = file.len();
+    if n - at < 3 {
+        return FieldAnswer::Refused(3);
+    }
+    let tag = file[at];
+    let len = wide(file[at + 1]) + 256 * wide(file[at + 2]);
+    let start = at + 3;
+    if n - start < len {
+        return FieldAnswer::Refused(3);
+    }
+    if tag < 1 {
+        return FieldAnswer::Refused(4);
+    }
+    if 5 < tag {
+        return FieldAnswer::Refused(4);
+    }
+    if !in_place(fields, tag) {
+        return FieldAnswer::Refused(5);
+    }
+    let i = (tag - 1) as usize;
+    let row = ROWS[i];
+    let least = row.least as usize;
+    let most = row.most as usize;
+    if len < least {
+        return FieldAnswer::Refused(6);
+    }
+    if most < len {
+        return FieldAnswer::Refused(6);
+    }
+    FieldAnswer::Field {
+        tag,
+        start,
+        end: start + len,
+    }
+}
+
+// The number of a refusal; 0 for a field.
+fn refusal_of(f: FieldAnswer) -> u8
+    ensures { λ r. ⌜ r ≡ refusalOf f ⌝ }
+{
+    match f {
+        FieldAnswer::Refused(n) => n,
+        FieldAnswer::Field {
+            tag: _,
+            start: _,
+            end: _,
+        } => 0,
+    }
+}
+
+// Is each byte of the name behind the level 33 to 126?
+fn name_ok(v: &[u8]) -> bool
+    requires { ⌜ 2 ≤ length (now v) ⌝ }
+    ensures { λ r. ⌜ r ≡ all nameByte (drop 2 (now (v .entry))) ⌝ }
+{
+    let mut i = 2;
+    while i < v.len() {
+        let c = v[i];
+        i += 1;
+        if c < 33 {
+            return false;
+        }
+        if 126 < c {
+            return false;
+        }
+    }
+    true
+}
+
+// Question 6, of a value of the right length.
+fn content_ok(tag: u8, v: &[u8]) -> bool
+    requires { ⌜ T (lengthOk tag (length (now v))) ⌝ }
+    ensures { λ r. ⌜ r ≡ contentOk tag (now (v .entry)) ⌝ }
+{
+    if tag == 1 {
+        return v[0] == 1;
+    }
+    if tag == 2 {
+        if v[0] < 1 {
+            return false;
+        }
+        return v[0] <= 64;
+    }
+    if tag == 3 {
+        return name_ok(v);
+    }
+    true
+}
+
+// Is this the number, from 1, of one of so many jobs?
+fn is_job(jobs: usize, number: usize) -> bool
+    ensures { λ r. ⌜ r ≡ isJob jobs number ⌝ }
+{
+    if number < 1 {
+        return false;
+    }
+    number <= jobs
+}
+
+// A refusal by question `number`.
+fn refused(number: u8) -> Counts
+    ensures { λ r. ⌜ r .number ≡ number ⌝ }
+{
+    Counts {
+        number,
+        fields: 0,
+        limit: 0,
+        jobs: 0,
+    }
+}
+
+// A need: questions 8 and 9, and its place in both arrays of sets.
+fn take_need(c: Counts, v: &[u8], givers: &mut [u64; 64], takers: &mut [u64; 64]) -> Counts
+    requires { ⌜ (c .number ≡ 0) × (c .fields < 65536) × (c .jobs ≤ 64) × (2 ≤ length (now v)) ⌝ }
+    ensures { λ r. ⌜ ((o : List ℕ) → answerOf r o (now (givers .exit)) (now (takers .exit)) ≡ takeNeed (stateOf c o (now (givers .entry)) (now (takers .entry))) (at (now (v .entry)) 0) (at (now (v .entry)) 1)) ⌝ }
+{
+    let jobs = c.jobs;
+    let giver = wide(v[0]);
+    let taker = wide(v[1]);
+    if !is_job(jobs, giver) {
+        return refused(8);
+    }
+    if !is_job(jobs, taker) {
+        return refused(8);
+    }
+    if giver == taker {
+        return refused(8);
+    }
+    let g = 63 - (giver - 1);
+    let k = 63 - (taker - 1);
+    let before = Set { bits: givers[k] };
+    if before.has(g) {
+        return refused(9);
+    }
+    let after = before.with(g);
+    givers[k] = after.bits;
+    let others = Set { bits: takers[g] };
+    let more = others.with(k);
+    takers[g] = more.bits;
+    Counts {
+        number: 0,
+        fields: c.fields + 1,
+        limit: c.limit,
+        jobs,
+    }
+}
+
+// The field at offset `at`, with its tag and value: the rest of question 6, and 7 to 9.
+fn take_field(
+    c: Counts,
+    tag: u8,
+    at: usize,
+    v: &[u8],
+    offsets: &mut [u16; 64],
+    givers: &mut [u64; 64],
+    takers: &mut [u64; 64],
+) -> Counts
+    requires { ⌜ (c .number ≡ 0) × (c .fields < 65536) × (c .jobs ≤ 64) × (at < 65536) × T (lengthOk tag (length (now v))) ⌝ }
+    ensures { λ r. ⌜ answerOf r (now (offsets .exit)) (now (givers .exit)) (now (takers .exit)) ≡ takeField (stateOf c (now (offsets .entry)) (now (givers .entry)) (now (takers .entry))) tag at (now (v .entry)) ⌝ }
+{
+    if !content_ok(tag, v) {
+        return refused(6);
+    }
+    let jobs = c.jobs;
+    if tag == 2 {
+        return Counts {
+            number: 0,
+            fields: c.fields + 1,
+            limit: wide(v[0]),
+            jobs,
+        };
+    }
+    if tag == 3 {
+        if 64 <= jobs {
+            return refused(7);
+        }
+        offsets[jobs] = at as u16;
+        return Counts {
+            number: 0,
+            fields: c.fields + 1,
+            limit: c.limit,
+            jobs: jobs + 1,
+        };
+    }
+    if tag == 4 {
+        return take_need(c, v, givers, takers);
+    }
+    Counts {
+        number: 0,
+        fields: c.fields + 1,
+        limit: c.limit,
+        jobs,
+    }
+}
+
+// All fields, one after the other: questions 3 to 9.
+fn read_fields(
+    file: &[u8],
+    offsets: &mut [u16; 64],
+    givers: &mut [u64; 64],
+    takers: &mut [u64; 64],
+) -> Counts
+    requires { ⌜ (length (now file) ≤ 16384) × Held (now file) noFields (record { fields = 0; limit = 0; jobs = 0; offsets = now offsets; givers = now givers; takers = now takers }) ⌝ }
+    ensures { λ r. ⌜ Same (now (file .entry)) (allFields (now (file .entry))) (answerOf r (now (offsets .exit)) (now (givers .exit)) (now (takers .exit))) ⌝ }
+{
+    let mut c = Counts {
+        number: 0,
+        fields: 0,
+        limit: 0,
+        jobs: 0,
+    };
+    let mut at = 0;
+    while at < file.len() {
+        let f = field_at(file, at, c.fields);
+        let FieldAnswer::Field { tag, start, end } = f else {
+            return refused(refusal_of(f));
+        };
+        let next = take_field(c, tag, at, &file[start..end], offsets, givers, takers);
+        if next.number != 0 {
+            return next;
+        }
+        c = next;
+        at = end;
+    }
+    c
+}
+
+// Question 10, after all fields: the number of the refusal, 0 for a readable file.
+fn complete(c: Counts) -> u8
+    ensures { λ r. ⌜ r ≡ completeNumber c ⌝ }
+{
+    let number = c.number;
+    if number != 0 {
+        return number;
+    }
+    if c.fields < 2 {
+        return 10;
+    }
+    if c.jobs < 1 {
+        return 10;
+    }
+    0
+}
+
+// The job file: questions 2 to 10.
+pub fn read_file(file: &[u8]) -> JobFile
+    ensures { λ r. ⌜ Reads (now (file .entry)) r ⌝ }
+{
+    let mut offsets = [0; 64];
+    let mut givers = [0; 64];
+    let mut takers = [0; 64];
+    if 16384 < file.len() {
+        return JobFile {
+            number: 2,
+            limit: 0,
+            jobs: 0,
+            offsets,
+            givers,
+            takers,
+        };
+    }
+    let c = read_fields(file, &mut offsets, &mut givers, &mut takers);
+    let number = complete(c);
+    JobFile {
+        number,
+        limit: c.limit,
+        jobs: c.jobs,
+        offsets,
+        givers,
+        takers,
+    }
+}
