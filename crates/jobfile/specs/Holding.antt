@@ -2,7 +2,7 @@
 use mathlib.Core.Path.{_≡_, refl, sym, ap, _∙_}
 use mathlib.Core.Bool.{Bool, true, false, not, _&&_, _||_, or-false, and-comm, true≢false, false≢true}
 use mathlib.Core.List.{List, [], _∷_, _++_}
-use Prim.Native.Nat.{ℕ, _+_, _-_, _<_}
+use Prim.Native.Nat.{ℕ, suc, _+_, _-_, _<_}
 use native.Mathlib.Omega.{arith}
 use native.Mathlib.Decide.{ℕ-discrete}
 use borrow.Author.Tests.{eq-eqb, ne-eqb}
@@ -56,11 +56,12 @@ module _ (bs : List ℕ) where
 -- ---- one field more
 
 module _ (bs : List ℕ) (f : JobFile) (s : State) (held : Held bs f s) where
-  counted-held : Held bs (counted f) (record { fields = s .fields + 1; limit = s .limit; jobs = s .jobs; offsets = s .offsets; givers = s .givers; takers = s .takers })
-  unfolding counted
-  counted-held = record {
-    fields-is = omega (arith, held .fields-is);
-    limit-is = held .limit-is;
+  -- the counts of fields and the limit are all that changes
+  pub recounted : (k k′ l l′ : ℕ) → k ≡ k′ → l ≡ l′
+      → Held bs (record { fields = k′; limit = l′; jobs = f .jobs; needs = f .needs }) (record { fields = k; limit = l; jobs = s .jobs; offsets = s .offsets; givers = s .givers; takers = s .takers })
+  recounted k k′ l l′ e q = record {
+    fields-is = e;
+    limit-is = q;
     jobs-is = held .jobs-is;
     few = held .few;
     sizes = held .sizes;
@@ -70,25 +71,22 @@ module _ (bs : List ℕ) (f : JobFile) (s : State) (held : Held bs f s) where
     takers-are = held .takers-are;
   }
 
+  one-more : s .fields + 1 ≡ suc (f .fields)
+  one-more = omega (arith, held .fields-is)
+
+  counted-held : Held bs (counted f) (record { fields = s .fields + 1; limit = s .limit; jobs = s .jobs; offsets = s .offsets; givers = s .givers; takers = s .takers })
+  unfolding counted
+  counted-held = recounted (s .fields + 1) (suc (f .fields)) (s .limit) (f .limit) one-more (held .limit-is)
+
   limit-held : (l : ℕ) → Held bs (withLimit f l) (record { fields = s .fields + 1; limit = l; jobs = s .jobs; offsets = s .offsets; givers = s .givers; takers = s .takers })
   unfolding withLimit
-  limit-held l = record {
-    fields-is = omega (arith, held .fields-is);
-    limit-is = refl;
-    jobs-is = held .jobs-is;
-    few = held .few;
-    sizes = held .sizes;
-    offsets-whole = held .offsets-whole;
-    offsets-are = held .offsets-are;
-    givers-are = held .givers-are;
-    takers-are = held .takers-are;
-  }
+  limit-held l = recounted (s .fields + 1) (suc (f .fields)) l l one-more refl
 
   job-held : (a : ℕ) → T (whole bs a) → s .jobs < 64
       → Held bs (withJob f (jobOf (value bs a))) (record { fields = s .fields + 1; limit = s .limit; jobs = s .jobs + 1; offsets = set (s .offsets) (s .jobs) a; givers = s .givers; takers = s .takers })
   unfolding withJob
   job-held a w h = record {
-    fields-is = omega (arith, held .fields-is);
+    fields-is = one-more;
     limit-is = held .limit-is;
     jobs-is = omega (arith, held .jobs-is, length-append (f .jobs) (jobOf (value bs a) ∷ []));
     few = omega arith;
@@ -110,7 +108,7 @@ module _ (bs : List ℕ) (f : JobFile) (s : State) (held : Held bs f s) where
   need-held : (g k : ℕ) → g < 64 → k < 64 → Held bs (withNeed f (g, k)) (linked s g k)
   unfolding withNeed linked givesb
   need-held g k h l = record {
-    fields-is = omega (arith, held .fields-is);
+    fields-is = one-more;
     limit-is = held .limit-is;
     jobs-is = held .jobs-is;
     few = held .few;

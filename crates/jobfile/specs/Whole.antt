@@ -17,6 +17,7 @@ use Rattle.laws.specs.Fields.{ask-yes, ask-no}
 use Rattle.jobfile.specs.declared.Counts.{Counts}
 use Rattle.jobfile.specs.Reading.{stateOf, answerOf, completeNumber, Held, Same, Reads}
 use Rattle.jobfile.specs.NeedWays.{answer-refused, answer-got}
+use Rattle.jobfile.specs.Holding.{recounted}
 use Rattle.jobfile.specs.FieldByField.{allFields}
 use Rattle.jobfile.specs.declared.JobFile as code
 
@@ -59,17 +60,7 @@ module _ (bs : List ℕ) (fits : length bs ≤ 16384) (c : Counts) (o g t : List
         read = completed ∙ ask-yes (leb 2 (f .fields) && leb 1 (length (f .jobs))) 10 (got f) (simp tests (omega (arith, held .fields-is), omega (arith, held .jobs-is)))
 
         keep : Held bs f (record { fields = f .fields; limit = c .limit; jobs = c .jobs; offsets = o; givers = g; takers = t })
-        keep = record {
-          fields-is = refl;
-          limit-is = held .limit-is;
-          jobs-is = held .jobs-is;
-          few = held .few;
-          sizes = held .sizes;
-          offsets-whole = held .offsets-whole;
-          offsets-are = held .offsets-are;
-          givers-are = held .givers-are;
-          takers-are = held .takers-are;
-        }
+        keep = recounted bs f (stateOf c o g t) held (f .fields) (f .fields) (c .limit) (f .limit) refl (held .limit-is)
 
   -- a file of which all fields were asked
   pub all-asked : Same bs (allFields bs) (answerOf c o g t) → Reads bs (record { number = q; limit = c .limit; jobs = c .jobs; offsets = o; givers = g; takers = t })

@@ -6,8 +6,8 @@ use mathlib.Core.List.{List}
 use Prim.Native.Nat.{ℕ, zero, suc, _+_, _-_, _≤_, _<_}
 use native.Mathlib.Omega.{arith}
 use borrow.Author.Tests.{lt-ltb, le-ltb}
-use lib.ListN.{length, take, drop, length-take, length-drop}
-use lib.Dec.{T, leb, ltb}
+use lib.ListN.{length, drop, length-take, length-drop}
+use lib.Dec.{T, ltb}
 use Rattle.rules.specs.Basics.{choose}
 use Rattle.rules.specs.Fields.{Answer, refused, got, ask, after, part, fieldEnd, value, whole, overFields}
 use Rattle.rules.specs.Numbers.{Bytes}

@@ -1,5 +1,5 @@
 -- What holds of every readable job file: all that the laws on needs ask for. Assumes nothing.
-use mathlib.Core.Path.{_≡_, refl, sym, subst}
+use mathlib.Core.Path.{_≡_, refl, subst}
 use mathlib.Core.Logic.{_≢_, ⊎-elim, _↔_}
 use mathlib.Core.Bool.{Bool, true, false, not, _&&_}
 use mathlib.Core.List.{List, [], _∷_, _++_, List·Memᴰ, List·Memᴰ·head, List·Memᴰ·tail, List·Memᴰ·cases-cons, List·Memᴰ·not-nil, List·Memᴰ·append-cases}
@@ -10,8 +10,8 @@ use lib.ListN.{length, drop, length-append, length-drop}
 use lib.Dec.{T, leb, ltb, eqb}
 use Rattle.rules.specs.Sizes.{maxJobs, maxLimit, maxFile}
 use Rattle.rules.specs.Basics.{choose, at, all, Distinct}
-use Rattle.rules.specs.Numbers.{Bytes, word, signed, InRange}
-use Rattle.rules.specs.Fields.{Answer, got, ask, after, value, whole, overFields}
+use Rattle.rules.specs.Numbers.{Bytes, word, InRange}
+use Rattle.rules.specs.Fields.{got, ask, after, value, whole, overFields}
 use Rattle.rules.specs.Needs.{Need, Gives, givesb}
 use Rattle.rules.specs.JobFile.{fieldRows, rowOf, Job, JobFile, nameByte, nameOk, knownTag, inPlace, lengthOk, contentOk, counted, withLimit, withJob, withNeed, jobOf, isJob, addNeed, addField, readField, noFields, complete, readFile}
 use Rattle.laws.specs.Tests.{T-and, T-all, T-ltb, T-eqb, tests}

@@ -1,17 +1,17 @@
 -- Reading a table back: decoding what was encoded gives the same table; its size. Assumes nothing.
 use mathlib.Core.Path.{_≡_, refl, sym, ap, subst, _∙_}
-use mathlib.Core.Bool.{Bool, true, _&&_}
+use mathlib.Core.Bool.{Bool, _&&_}
 use mathlib.Core.List.{List, [], _∷_, _++_, append-assoc, append-nil}
-use Prim.Native.Nat.{ℕ, suc, _+_, _-_, _*_, _≤_, _<_}
+use Prim.Native.Nat.{ℕ, _+_, _-_, _*_, _≤_, _<_}
 use native.Mathlib.Omega.{arith}
 use lib.ListN.{length, take, drop, length-append}
 use lib.Seq.{getD-append-add, getD-append-seam, drop-append-add, take-append-seam}
-use lib.Dec.{T, eqb, leb}
+use lib.Dec.{T, eqb}
 use Rattle.rules.specs.Sizes.{maxJobs, tableSize}
-use Rattle.rules.specs.Basics.{at, all}
-use Rattle.rules.specs.Numbers.{Bytes, word, low, high, signed, unsigned, InRange}
+use Rattle.rules.specs.Basics.{at}
+use Rattle.rules.specs.Numbers.{word, low, high, signed, unsigned, InRange}
 use Rattle.rules.specs.Fields.{Answer, got, ask, after, part, field, fieldEnd, value, whole, overFields}
-use Rattle.rules.specs.JobFile.{nameByte, nameOk}
+use Rattle.rules.specs.JobFile.{nameOk}
 use Rattle.rules.specs.Table.{Row, Table, rowBytes, rowsBytes, encode, rowOf, readRow, headOk, decode}
 use Rattle.laws.specs.Tests.{tests}
 use Rattle.laws.specs.Numbers.{word-split, signed-unsigned}

@@ -1,5 +1,5 @@
 -- The job file: questions 2 to 10 in their order (document 01, "Job file and table file", "The questions"). Assumes nothing.
-use mathlib.Core.Bool.{Bool, true, false, not, _&&_}
+use mathlib.Core.Bool.{Bool, true, not, _&&_}
 use mathlib.Core.List.{List, [], _∷_, _++_}
 use Prim.Native.Nat.{ℕ, suc, _-_}
 use lib.ListN.{length, getD, drop}

@@ -1,5 +1,5 @@
 -- Needs and circles (document 01, "The rules a table keeps", question 11). Jobs are counted from 0 here. Assumes nothing.
-use mathlib.Core.Bool.{Bool, true, false, _&&_}
+use mathlib.Core.Bool.{Bool, false, _&&_}
 use mathlib.Core.List.{List, List·Memᴰ}
 use Prim.Native.Nat.{ℕ, zero, suc, _<_}
 use lib.ListN.{getD, replicate}
