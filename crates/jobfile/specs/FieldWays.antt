@@ -6,32 +6,34 @@ use Prim.Native.Nat.{ℕ, zero, suc, _+_, _-_, _*_, _≤_, _<_}
 use native.Mathlib.Omega.{arith}
 use lib.ListN.{length, getD}
 use lib.Dec.{T}
-use Rattle.rules.specs.Basics.{at}
+use Rattle.rules.specs.Basics.{choose, at}
 use Rattle.rules.specs.Numbers.{word}
 use Rattle.rules.specs.Fields.{fieldEnd, value, whole}
-use Rattle.rules.specs.JobFile.{fieldRows, rowOf, knownTag, inPlace, lengthOk}
+use Rattle.rules.specs.JobFile.{fieldRows, firstRow, fieldRow, knownTag, inPlace, lengthOk}
 use Rattle.laws.specs.Tests.{tests, T-true, choose-yes, choose-no}
+use Rattle.laws.specs.JobFile.{known-is}
 use Rattle.laws.specs.Fields.{whole-is, length-value}
-use Rattle.jobfile.specs.declared.Row.{Row}
+use Rattle.jobfile.specs.declared.FieldRow.{FieldRow}
 use Rattle.jobfile.specs.declared.FieldAnswer.the-variants.{Field, Refused}
 use Rattle.jobfile.specs.Reading.{fieldAt}
 
-abbrev row : ℕ → ℕ → ℕ → Row
-row t a b = record { tag = t; least = a; most = b }
+abbrev row : ℕ → ℕ → ℕ → FieldRow
+row t a b = record { tag = t; least = a; greatest = b }
 
 -- the constant table of the code
-abbrev pub codeRows : List Row
+abbrev pub codeRows : List FieldRow
 codeRows = row 1 1 1 ∷ row 2 1 1 ∷ row 3 3 14 ∷ row 4 2 2 ∷ row 5 0 65535 ∷ []
 
 -- it is the table of the rules
-row-is : (tag : ℕ) (z : Row) → 1 ≤ tag → tag ≤ 5 → (getD codeRows (tag - 1) z .least ≡ rowOf tag .least) × (getD codeRows (tag - 1) z .most ≡ rowOf tag .most)
-unfolding rowOf fieldRows
+row-is : (tag : ℕ) (z : FieldRow) → 1 ≤ tag → tag ≤ 5
+    → (getD codeRows (tag - 1) z .least ≡ fieldRow tag .least) × (getD codeRows (tag - 1) z .greatest ≡ fieldRow tag .greatest) × (getD codeRows (tag - 1) z .tag ≡ fieldRow tag .tag)
+unfolding fieldRow firstRow fieldRows choose
 row-is zero z l h = absurd (omega arith)
-row-is (suc zero) z l h = (refl, refl)
-row-is (suc (suc zero)) z l h = (refl, refl)
-row-is (suc (suc (suc zero))) z l h = (refl, refl)
-row-is (suc (suc (suc (suc zero)))) z l h = (refl, refl)
-row-is (suc (suc (suc (suc (suc zero))))) z l h = (refl, refl)
+row-is (suc zero) z l h = (refl, refl, refl)
+row-is (suc (suc zero)) z l h = (refl, refl, refl)
+row-is (suc (suc (suc zero))) z l h = (refl, refl, refl)
+row-is (suc (suc (suc (suc zero)))) z l h = (refl, refl, refl)
+row-is (suc (suc (suc (suc (suc zero))))) z l h = (refl, refl, refl)
 row-is (suc (suc (suc (suc (suc (suc i)))))) z l h = absurd (omega arith)
 
 module _ (bs : List ℕ) (a k : ℕ) where
@@ -63,17 +65,14 @@ module _ (bs : List ℕ) (a k : ℕ) where
       unknown n = sym (choose-yes (whole bs a) _ _ is-whole ∙ choose-no (knownTag (at bs a)) _ _ n)
 
       pub low-tag : at bs a < 1 → Refused 4 ≡ fieldAt bs a k
-      unfolding knownTag
-      low-tag l = unknown (λ t. let w = simp tests at t in omega arith)
+      low-tag l = unknown (λ t. omega (arith, known-is (at bs a) .0 t))
 
       pub high-tag : 5 < at bs a → Refused 4 ≡ fieldAt bs a k
-      unfolding knownTag
-      high-tag l = unknown (λ t. let w = simp tests at t in omega arith)
+      high-tag l = unknown (λ t. omega (arith, known-is (at bs a) .0 t))
 
       module _ (low : 1 ≤ at bs a) (high : at bs a ≤ 5) where
         known : T (knownTag (at bs a))
-        unfolding knownTag
-        known = simp tests (low, high)
+        known = known-is (at bs a) .1 (low, high)
 
         pub misplaced : inPlace k (at bs a) ≡ false → Refused 5 ≡ fieldAt bs a k
         unfolding fieldAt
@@ -85,15 +84,15 @@ module _ (bs : List ℕ) (a k : ℕ) where
           wrong-length n =
               sym (choose-yes (whole bs a) _ _ is-whole ∙ choose-yes (knownTag (at bs a)) _ _ known ∙ choose-yes (inPlace k (at bs a)) _ _ (T-true (inPlace k (at bs a)) .1 placed) ∙ choose-no (lengthOk (at bs a) (length (value bs a))) _ _ n)
 
-          pub too-short : (z : Row) → x + 256 * y < getD codeRows (at bs a - 1) z .least → Refused 6 ≡ fieldAt bs a k
+          pub too-short : (z : FieldRow) → x + 256 * y < getD codeRows (at bs a - 1) z .least → Refused 6 ≡ fieldAt bs a k
           unfolding lengthOk
           too-short z l = wrong-length (λ t. let w = simp tests at t in omega (arith, size-is, row-is (at bs a) z low high .0))
 
-          pub too-long : (z : Row) → getD codeRows (at bs a - 1) z .most < x + 256 * y → Refused 6 ≡ fieldAt bs a k
+          pub too-long : (z : FieldRow) → getD codeRows (at bs a - 1) z .greatest < x + 256 * y → Refused 6 ≡ fieldAt bs a k
           unfolding lengthOk
           too-long z l = wrong-length (λ t. let w = simp tests at t in omega (arith, size-is, row-is (at bs a) z low high .1))
 
-          pub found : (z : Row) → getD codeRows (at bs a - 1) z .least ≤ x + 256 * y → x + 256 * y ≤ getD codeRows (at bs a - 1) z .most
+          pub found : (z : FieldRow) → getD codeRows (at bs a - 1) z .least ≤ x + 256 * y → x + 256 * y ≤ getD codeRows (at bs a - 1) z .greatest
               → Field (at bs a) (a + 3) (a + 3 + (x + 256 * y)) ≡ fieldAt bs a k
           unfolding fieldAt lengthOk
           found z l m =

@@ -40,7 +40,7 @@ pub record State : Type 0 where
 abbrev pub stateOf : Counts → List ℕ → List ℕ → List ℕ → State
 stateOf c o g t = record { fields = c .fields; limit = c .limit; jobs = c .jobs; offsets = o; givers = g; takers = t }
 
--- the counts with number 0 say that all is well
+-- the counts with number 0 say that nothing was refused
 unfoldable pub answerOf : Counts → List ℕ → List ℕ → List ℕ → Answer State
 answerOf c o g t = choose (eqb (c .number) 0) (got (stateOf c o g t)) (refused (c .number))
 

@@ -14,38 +14,38 @@ ghost use Rattle.jobfile.specs.Reading.{fieldAt, refusalOf, stateOf, ans
 ghost use Rattle.jobfile.specs.FieldByField.{allFields};
 
 // A row of the table of fields: a tag with its shortest and longest value.
-pub struct Row {
+pub struct FieldRow {
     pub tag: u8,
     pub least: u16,
-    pub most: u16,
+    pub greatest: u16,
 }
 
 // Header, limit, job, need, comment.
-pub const ROWS: [Row; 5] = [
-    Row {
+pub const ROWS: [FieldRow; 5] = [
+    FieldRow {
         tag: 1,
         least: 1,
-        most: 1,
+        greatest: 1,
     },
-    Row {
+    FieldRow {
         tag: 2,
         least: 1,
-        most: 1,
+        greatest: 1,
     },
-    Row {
+    FieldRow {
         tag: 3,
         least: 3,
-        most: 14,
+        greatest: 14,
     },
-    Row {
+    FieldRow {
         tag: 4,
         least: 2,
-        most: 2,
+        greatest: 2,
     },
-    Row {
+    FieldRow {
         tag: 5,
         least: 0,
-        most: 65535,
+        greatest: 65535,
     },
 ];
 
@@ -94,7 +94,7 @@ fn in_place(fields: usize, tag: u8) -> bool
 }
 
 // The field at offset `at` behind `fields` others: questions 3 to 5, and 6 of its length.
-pub fn field_at(file: &[u8], at: usize, fields: usize) -> FieldAnswer
+fn field_at(file: &[u8], at: usize, fields: usize) -> FieldAnswer
     requires { ⌜ at < length (now file) ⌝ }
     ensures { λ r. ⌜ r ≡ fieldAt (now (file .entry)) at fields ⌝ }
 {
@@ -120,11 +120,11 @@ pub fn field_at(file: &[u8], at: usize, fields: usize) -> FieldAnswer
     let i = (tag - 1) as usize;
     let row = ROWS[i];
     let least = row.least as usize;
-    let most = row.most as usize;
+    let greatest = row.greatest as usize;
     if len < least {
         return FieldAnswer::Refused(6);
     }
-    if most < len {
+    if greatest < len {
         return FieldAnswer::Refused(6);
     }
     FieldAnswer::Field {

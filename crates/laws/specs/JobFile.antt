@@ -3,20 +3,21 @@ use mathlib.Core.Path.{_≡_, refl, subst}
 use mathlib.Core.Logic.{_≢_, ⊎-elim, _↔_}
 use mathlib.Core.Bool.{Bool, true, false, not, _&&_}
 use mathlib.Core.List.{List, [], _∷_, _++_, List·Memᴰ, List·Memᴰ·head, List·Memᴰ·tail, List·Memᴰ·cases-cons, List·Memᴰ·not-nil, List·Memᴰ·append-cases}
-use Prim.Native.Nat.{ℕ, suc, _+_, _-_, _≤_, _<_}
+use Prim.Native.Nat.{ℕ, zero, suc, _+_, _-_, _≤_, _<_}
 use native.Mathlib.Omega.{arith}
 use native.Mathlib.Decide.{ℕ-discrete}
+use borrow.Author.Tests.{ne-eqb}
 use lib.ListN.{length, drop, length-append, length-drop}
 use lib.Dec.{T, leb, ltb, eqb}
 use Rattle.rules.specs.Sizes.{maxJobs, maxLimit, maxFile}
-use Rattle.rules.specs.Basics.{choose, at, all, Distinct}
+use Rattle.rules.specs.Basics.{choose, at, all, any, Distinct}
 use Rattle.rules.specs.Numbers.{Bytes, word, InRange}
-use Rattle.rules.specs.Fields.{got, ask, after, value, whole, overFields}
+use Rattle.rules.specs.Fields.{numberOf, got, ask, after, value, whole, overFields}
 use Rattle.rules.specs.Needs.{Need, Gives, givesb}
-use Rattle.rules.specs.JobFile.{fieldRows, rowOf, Job, JobFile, nameByte, nameOk, knownTag, inPlace, lengthOk, contentOk, counted, withLimit, withJob, withNeed, jobOf, isJob, addNeed, addField, readField, noFields, complete, readFile}
-use Rattle.laws.specs.Tests.{T-and, T-all, T-ltb, T-eqb, tests}
+use Rattle.rules.specs.JobFile.{fieldRows, firstRow, fieldRow, Job, JobFile, nameByte, nameOk, knownTag, inPlace, lengthOk, contentOk, counted, withLimit, withJob, withNeed, jobOf, isJob, addNeed, addField, readField, noFields, complete, readFile}
+use Rattle.laws.specs.Tests.{by-choice, T-and, T-all, T-ltb, T-eqb, tests}
 use Rattle.laws.specs.Numbers.{bytes-at, split-word, unsigned-signed}
-use Rattle.laws.specs.Fields.{ask-got, after-got, bytes-value, overFields-keeps}
+use Rattle.laws.specs.Fields.{Numbered, numbered-got, numbered-ask, numbered-after, numbered-fields, ask-got, after-got, bytes-value, overFields-keeps}
 
 -- limit, number of jobs, levels, names and needs are as document 01 says
 pub record Readable (f : JobFile) : Type 0 where
@@ -47,9 +48,26 @@ distinct-snoc (c ∷ ds) d u n = (
   distinct-snoc ds d (u .1) (λ m. n (List·Memᴰ·tail m)),
 )
 
+-- the tags of the table are 1 to 5
+pub known-is : (tag : ℕ) → T (knownTag tag) ↔ ((1 ≤ tag) × (tag ≤ 5))
+unfolding knownTag fieldRows any
+known-is zero = (λ h. absurd h, λ h. absurd (omega arith))
+known-is (suc zero) = (λ h. omega arith, λ h. tt)
+known-is (suc (suc zero)) = (λ h. omega arith, λ h. tt)
+known-is (suc (suc (suc zero))) = (λ h. omega arith, λ h. tt)
+known-is (suc (suc (suc (suc zero)))) = (λ h. omega arith, λ h. tt)
+known-is (suc (suc (suc (suc (suc zero))))) = (λ h. omega arith, λ h. tt)
+known-is (suc (suc (suc (suc (suc (suc tag)))))) = (λ h. absurd (beyond h), λ h. absurd (omega arith))
+  where
+    t : ℕ
+    t = suc (suc (suc (suc (suc (suc tag)))))
+
+    beyond : T (knownTag t) → ⊥
+    beyond h = simp (ne-eqb 1 t (λ e. omega arith), ne-eqb 2 t (λ e. omega arith), ne-eqb 3 t (λ e. omega arith), ne-eqb 4 t (λ e. omega arith), ne-eqb 5 t (λ e. omega arith)) at h
+
 -- a value of tag 3 that passes question 6 has a name
 name-ok : (v : List ℕ) → T (lengthOk 3 (length v)) → T (all nameByte (drop 2 v)) → T (nameOk (drop 2 v))
-unfolding lengthOk rowOf fieldRows nameOk
+unfolding lengthOk fieldRow firstRow fieldRows choose nameOk
 name-ok v h c = let w = simp tests at h in simp tests (simp length-drop (omega arith), (simp length-drop (omega arith), simp tests at c))
 
 -- what is neither header nor limit stands behind both (question 5)
@@ -166,3 +184,20 @@ readable bs b f q =
     done : (g : JobFile) → SoFar g → T (leb 2 (g .fields) && leb 1 (length (g .jobs))) → Readable g
     done g so t = let h = simp tests at t in
         record { limit-in = so .limit-in (h .0); jobs-in = (h .1, so .few); levels-in = so .levels-in; names-in = so .names-in; needs-in = so .needs-in; distinct = so .distinct }
+
+-- the number of a reading is 0 just where the file is readable
+pub read-got : (bs : List ℕ) → numberOf (readFile bs) ≡ 0 → (f : JobFile) × (readFile bs ≡ got f)
+unfolding readFile readField addField addNeed complete Numbered
+read-got bs e = numbered-got (readFile bs) all-numbered e
+  where
+    some : (q : ℕ) → suc q ≡ 0 → ⊥
+    some q z = omega arith
+
+    field-numbered : (f : JobFile) (a : ℕ) → Numbered (readField bs f a)
+    field-numbered f a =
+        numbered-ask _ 3 _ (some 2) (numbered-ask _ 4 _ (some 3) (numbered-ask _ 5 _ (some 4) (numbered-ask _ 6 _ (some 5)
+        (by-choice Numbered (eqb (at bs a) 2) (λ _. tt) (λ _. by-choice Numbered (eqb (at bs a) 3) (λ _. numbered-ask _ 7 _ (some 6) tt)
+        (λ _. by-choice Numbered (eqb (at bs a) 4) (λ _. numbered-ask _ 8 _ (some 7) (numbered-ask _ 9 _ (some 8) tt)) (λ _. tt)))))))
+
+    all-numbered : Numbered (readFile bs)
+    all-numbered = numbered-ask _ 2 _ (some 1) (numbered-after _ complete (numbered-fields (readField bs) field-numbered (length bs) bs 0 noFields) (λ f. numbered-ask _ 10 _ (some 9) tt))

@@ -7,6 +7,7 @@ use Prim.Native.Nat.{ℕ, zero, suc, _+_, _-_, _*_, _/_, _≤_, _<_}
 use native.Mathlib.Omega.{arith}
 use lib.ListN.{take, drop}
 use lib.Dec.{T, ltb, ltb→lt, lt→ltb}
+use lib.Signed.{_≤ℤ_}
 use lib.IntN.{ℤ, pos, negsuc, negℤ, natAbs}
 use Rattle.rules.specs.Basics.{choose, at}
 use Rattle.rules.specs.Numbers.{Bytes, word, low, high, signed, unsigned, InRange, eqℤ, centimetres}
@@ -102,6 +103,15 @@ centimetres-near (negsuc m) = go ((suc m + 5) / 10) refl
     go : (c : ℕ) → c ≡ (suc m + 5) / 10 → (10 * natAbs (negℤ (pos c)) ≤ suc m + 5) × (suc m + 5 < 10 * natAbs (negℤ (pos c)) + 10)
     go zero e = omega arith
     go (suc c) e = omega arith
+
+-- and they lie on the same side of zero
+pub centimetres-side : (m : ℕ) → (pos 0 ≤ℤ centimetres (pos m)) × (centimetres (negsuc m) ≤ℤ pos 0)
+unfolding centimetres
+centimetres-side m = (record { le = simp tests (omega arith) }, go ((suc m + 5) / 10))
+  where
+    go : (c : ℕ) → negℤ (pos c) ≤ℤ pos 0
+    go zero = record { le = simp tests (omega arith) }
+    go (suc c) = record { le = tt }
 
 pub centimetres-in : (z : ℤ) → InRange z → InRange (centimetres z)
 unfolding centimetres

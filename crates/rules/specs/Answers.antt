@@ -5,7 +5,7 @@ use mathlib.Core.Option.{Option, none, some}
 use Prim.Native.Nat.{ℕ, zero, suc}
 use lib.ListN.{length, drop, replicate}
 use lib.Dec.{leb, eqb}
-use Rattle.rules.specs.Sizes.{maxJobs, maxLimit, maxBoards, workSize, tableSize}
+use Rattle.rules.specs.Sizes.{maxJobs, maxLimit, maxWidth, workSize, tableSize}
 use Rattle.rules.specs.Basics.{choose, at, tabulate, largest}
 use Rattle.rules.specs.Numbers.{centimetres}
 use Rattle.rules.specs.Fields.{Answer, refused, got, ask, after}
@@ -39,7 +39,7 @@ tabled f (some t) = got (tableOf f t)
 unfoldable pub planTable : JobFile → Answer Table
 planTable f =
     let n = length (f .jobs) in
-    ask (circleFree n (f .needs)) 11 (ask (leb (width n (f .needs) (f .limit)) maxBoards) 12 (tabled f (best n (keptb (f .needs)) (f .limit))))
+    ask (circleFree n (f .needs)) 11 (ask (leb (width n (f .needs) (f .limit)) maxWidth) 12 (tabled f (best n (keptb (f .needs)) (f .limit))))
 
 -- what the planner answers and leaves: number (0 for a table), length, and every byte of both buffers
 pub record Outcome : Type 0 where

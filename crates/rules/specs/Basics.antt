@@ -52,12 +52,12 @@ tabulate f (suc k) i = f i ∷ tabulate f k (suc i)
 unfoldable pub count : (ℕ → Bool) → ℕ → ℕ
 count p n = length (filter p (range n 0))
 
--- the largest of f 0, .., f (k - 1)
+-- the largest of f 0, .., f (k - 1), 0 where k is 0
 unfoldable pub most : (ℕ → ℕ) → ℕ → ℕ
 most f zero = 0
 most f (suc k) = max (f k) (most f k)
 
--- the largest entry
+-- the largest entry, 0 of an empty list
 unfoldable pub largest : List ℕ → ℕ
 largest [] = 0
 largest (x ∷ xs) = max x (largest xs)

@@ -31,7 +31,7 @@ giverBefore (d ∷ ds) t i =
     let r = giverBefore ds t i in
     choose (eqb (d .1) i && eqb (at t (d .0) + 1) (at t i)) (some (d .0)) r
 
--- the lowest board from c up that is not in u, within k steps
+-- the lowest board from c up that is not in u, within k steps; as many steps as u has boards are enough (law `lowest-new`)
 unfoldable pub lowestFree : ℕ → ℕ → List ℕ → ℕ
 lowestFree zero c u = c
 lowestFree (suc k) c u = choose (has c u) (lowestFree k (suc c) u) c

@@ -17,7 +17,7 @@ unfoldable pub numberOf : {A : Type 0} → Answer A → ℕ
 numberOf (refused q) = q
 numberOf (got a) = 0
 
--- "A no gives the number, and nothing later is asked": question q, and what follows a yes
+-- a "no" "gives the number, and nothing later is asked": question q, and what follows a yes
 unfoldable pub ask : {A : Type 0} → Bool → ℕ → Answer A → Answer A
 ask true q rest = rest
 ask false q rest = refused q

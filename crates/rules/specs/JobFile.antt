@@ -6,7 +6,7 @@ use lib.ListN.{length, getD, drop}
 use lib.Dec.{leb, ltb, eqb}
 use lib.IntN.{ℤ, pos}
 use Rattle.rules.specs.Sizes.{maxJobs, maxLimit, maxFile}
-use Rattle.rules.specs.Basics.{choose, at, all}
+use Rattle.rules.specs.Basics.{choose, at, all, any}
 use Rattle.rules.specs.Numbers.{word, signed}
 use Rattle.rules.specs.Fields.{Answer, got, ask, after, value, whole, overFields}
 use Rattle.rules.specs.Needs.{Need, givesb}
@@ -15,24 +15,29 @@ use Rattle.rules.specs.Needs.{Need, givesb}
 pub record FieldRow : Type 0 where
   pub tag : ℕ
   pub least : ℕ
-  pub most : ℕ
+  pub greatest : ℕ
 
 abbrev row : ℕ → ℕ → ℕ → FieldRow
-row t a b = record { tag = t; least = a; most = b }
+row t a b = record { tag = t; least = a; greatest = b }
 
--- header, limit, job, need, comment; a comment is as long as two bytes can say
+-- header, limit, job, need, comment; a comment is at most as long as two bytes can say
 unfoldable pub fieldRows : List FieldRow
 fieldRows = row 1 1 1 ∷ row 2 1 1 ∷ row 3 3 14 ∷ row 4 2 2 ∷ row 5 0 65535 ∷ []
 
-unfoldable pub rowOf : ℕ → FieldRow
-rowOf tag = getD fieldRows (tag - 1) (row 0 0 0)
+-- the first row with the tag
+unfoldable pub firstRow : List FieldRow → ℕ → FieldRow
+firstRow [] tag = row 0 0 0
+firstRow (r ∷ rs) tag = choose (eqb (r .tag) tag) r (firstRow rs tag)
+
+unfoldable pub fieldRow : ℕ → FieldRow
+fieldRow tag = firstRow fieldRows tag
 
 -- a job: level in millimetres, and name
 pub record Job : Type 0 where
   pub level : ℤ
   pub name : List ℕ
 
--- job number i, from 0
+-- the job at index i
 abbrev pub nthJob : List Job → ℕ → Job
 nthJob jobs i = getD jobs i (record { level = pos 0; name = [] })
 
@@ -53,7 +58,7 @@ nameOk name = leb 1 (length name) && (leb (length name) 12 && all nameByte name)
 
 -- "Is the tag 1 to 5?" (question 4)
 unfoldable pub knownTag : ℕ → Bool
-knownTag tag = leb 1 tag && leb tag 5
+knownTag tag = any (λ r. eqb (r .tag) tag) fieldRows
 
 -- "Is tag 1 the first, tag 2 the second and nothing else there, and neither tag later?" (question 5)
 unfoldable pub inPlace : ℕ → ℕ → Bool
@@ -61,7 +66,7 @@ inPlace fields tag = choose (eqb fields 0) (eqb tag 1) (choose (eqb fields 1) (e
 
 -- "Are length and value as in the table above (of a need, the length alone)?" (question 6)
 unfoldable pub lengthOk : ℕ → ℕ → Bool
-lengthOk tag k = leb (rowOf tag .least) k && leb k (rowOf tag .most)
+lengthOk tag k = leb (fieldRow tag .least) k && leb k (fieldRow tag .greatest)
 
 unfoldable pub contentOk : ℕ → List ℕ → Bool
 contentOk tag v =

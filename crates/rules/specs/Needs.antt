@@ -31,7 +31,7 @@ pub data Chain (needs : List Need) : ℕ → ℕ → Type 0 where
 abbrev pub Circle : List Need → Type 0
 Circle needs = (a : ℕ) × Chain needs a a
 
--- the test for circles: n rounds, each marks the jobs whose givers were all marked before (law `circle-free`: it says just that)
+-- the test for circles: n rounds, each marks the jobs whose givers were all marked before (law `circle-free`: true exactly where there is no circle)
 abbrev pub marked : List Bool → ℕ → Bool
 marked q i = getD q i false
 

@@ -28,7 +28,7 @@ total p [] x = 0
 total p (d ∷ ds) [] = 0
 total p (d ∷ ds) (v ∷ x) = choose (p d) (v + total p ds x) (total p ds x)
 
--- need number e, from 0
+-- the need at index e
 abbrev pub nth : List Need → ℕ → Need
 nth needs e = getD needs e (0, 0)
 

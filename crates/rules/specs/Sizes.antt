@@ -9,9 +9,13 @@ maxJobs = 64
 abbrev pub maxLimit : ℕ
 maxLimit = 64
 
--- "at most eight" boards, and the greatest width (questions 12 and 16)
+-- "at most eight" boards (question 16)
 abbrev pub maxBoards : ℕ
 maxBoards = 8
+
+-- "Is the width at most 8?" (question 12)
+abbrev pub maxWidth : ℕ
+maxWidth = 8
 
 -- "A job file is at most 16,384 bytes" (question 2)
 abbrev pub maxFile : ℕ

@@ -74,7 +74,7 @@ sameName [] (y ∷ b) = false
 sameName (x ∷ a) [] = false
 sameName (x ∷ a) (y ∷ b) = eqb x y && sameName a b
 
--- row number i, from 0
+-- the row at index i
 abbrev pub nthRow : List Row → ℕ → Row
 nthRow rows i = getD rows i (record { start = 0; board = 0; level = pos 0; name = [] })
 

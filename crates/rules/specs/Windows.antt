@@ -14,7 +14,7 @@ use Rattle.rules.specs.Program.{all₂}
 
 -- ---- the formulas as printed
 
--- v is the value of formula (1) at job i: j is a giver with the latest release, k another as late
+-- v is the value of formula (1) at job i (releases are never negative): j is a giver with the latest release, k another as late
 pub record Value1 (needs : List Need) (r : ℕ → ℕ) (i v : ℕ) : Type 0 where
   pub no-giver : ((g : ℕ) → Gives needs g i → ⊥) → v ≡ 0
   pub lone : (j : ℕ) → Gives needs j i → ((g : ℕ) → Gives needs g i → g ≢ j → r g < r j) → v ≡ r j + 1
@@ -37,7 +37,7 @@ unfoldable pub latest : (ℕ → ℕ) → List Need → ℕ → ℕ
 latest r [] i = 0
 latest r (d ∷ ds) i = max (choose (eqb (d .1) i) (suc (r (d .0))) 0) (latest r ds i)
 
--- at most one giver of i has it
+-- at most one giver g of i has r g + 1 = m
 unfoldable pub untied : (ℕ → ℕ) → List Need → ℕ → ℕ → Bool
 untied r needs i m =
     all₂ (λ d e. imp (eqb (d .1) i) (imp (eqb (e .1) i) (imp (eqb (suc (r (d .0))) m) (imp (eqb (suc (r (e .0))) m) (eqb (d .0) (e .0)))))) needs
@@ -75,7 +75,7 @@ holdsb r d s i = leZ (pos (r i)) (pos s) && leZ (pos s +ℤ pos 1) (d i)
 unfoldable pub widthOf : ℕ → (ℕ → ℕ) → (ℕ → ℤ) → ℕ → ℕ
 widthOf n r d L = most (λ s. count (holdsb r d s) n) L
 
--- the width of a file with n jobs and limit L; the deadline is the limit less the tail (laws `deadline-formula`, `deadline-only`)
+-- the width of a file with n jobs and limit L, one more than the paper's pathwidth; the deadline is the limit less the tail (laws `deadline-formula`, `deadline-only`)
 unfoldable pub width : ℕ → List Need → ℕ → ℕ
 width n needs L =
     let r = releases n needs n in

@@ -1,14 +1,14 @@
 -- `jobfile::content_ok` meets its contract. Assumes nothing.
 use native.Mathlib.Omega.{arith}
 use borrow.Author.Tests.{eq-eqb, ne-eqb, le-leb, lt-leb}
-use Rattle.rules.specs.JobFile.{fieldRows, rowOf, contentOk}
+use Rattle.rules.specs.JobFile.{fieldRows, firstRow, fieldRow, contentOk}
 use Rattle.rules.specs.Basics.{choose}
 use Rattle.jobfile.specs.Values.{value-long}
 use Rattle.jobfile.proofs.content_ok.Statement.{statement}
 use Rattle.jobfile.proofs.content_ok.Tie as tie
 
 shared-slice-read-result : tie.Need-shared-slice-read-result
-unfolding rowOf fieldRows
+unfolding fieldRow firstRow fieldRows choose
 shared-slice-read-result c =
     omega (arith, value-long 1 _ _ (c .before .if1 .taken) (c .before .before .before .pre))
 
@@ -18,7 +18,7 @@ returns c =
     simp (eq-eqb _ _ (c .before .if1 .taken))
 
 shared-slice-read-if3 : tie.Need-shared-slice-read-if3
-unfolding rowOf fieldRows
+unfolding fieldRow firstRow fieldRows choose
 shared-slice-read-if3 c =
     omega (arith, value-long 2 _ _ (c .before .if2 .taken) (c .before .before .before .before .pre))
 
@@ -28,7 +28,7 @@ returns-2 c =
     simp (ne-eqb _ _ (c .before .before .before .if1 .left), eq-eqb _ _ (c .before .before .if2 .taken), lt-leb 1 _ (c .if3 .taken))
 
 shared-slice-read-result-2 : tie.Need-shared-slice-read-result-2
-unfolding rowOf fieldRows
+unfolding fieldRow firstRow fieldRows choose
 shared-slice-read-result-2 c =
     omega (arith, value-long 2 _ _ (c .before .before .before .if2 .taken) (c .before .before .before .before .before .before .pre))
 
@@ -38,7 +38,7 @@ returns-3 c =
     simp (ne-eqb _ _ (c .before .before .before .before .if1 .left), eq-eqb _ _ (c .before .before .before .if2 .taken), le-leb 1 _ (c .before .if3 .left))
 
 name-ok-requires : tie.Need-name-ok-requires
-unfolding rowOf fieldRows
+unfolding fieldRow firstRow fieldRows choose
 name-ok-requires c κs =
     omega (arith, value-long 3 _ _ (c .if4 .taken) (c .before .before .before .before .pre))
 

@@ -81,8 +81,8 @@ array-copy-out-row c = search needs
 cast-least : tie.Need-cast-least
 cast-least c = search needs
 
-cast-most : tie.Need-cast-most
-cast-most c = search needs
+cast-greatest : tie.Need-cast-greatest
+cast-greatest c = search needs
 
 returns-6 : tie.Need-returns-6
 returns-6 c =
@@ -125,7 +125,7 @@ field-at-spec =
     mul-row
     array-copy-out-row
     cast-least
-    cast-most
+    cast-greatest
     returns-6
     returns-7
     add-t16

@@ -3,7 +3,7 @@ use mathlib.Core.Path.{sym, _∙_}
 use native.Mathlib.Omega.{arith}
 use borrow.Author.Tests.{not-true, not-false, eq-eqb, ne-eqb, lt-ltb, le-ltb}
 use borrow.Author.Needs.{needs}
-use Rattle.rules.specs.JobFile.{fieldRows, rowOf}
+use Rattle.rules.specs.JobFile.{fieldRows, firstRow, fieldRow}
 use Rattle.rules.specs.Fields.{ask}
 use Rattle.rules.specs.Basics.{choose}
 use Rattle.jobfile.specs.Reading.{answerOf, takeField}
@@ -27,7 +27,7 @@ add-t11 : tie.Need-add-t11
 add-t11 c = search needs
 
 shared-slice-read-wide : tie.Need-shared-slice-read-wide
-unfolding rowOf fieldRows
+unfolding fieldRow firstRow fieldRows choose
 shared-slice-read-wide c =
     omega (arith, value-long 2 _ _ (c .before .before .if2 .taken) (c .before .before .before .before .before .before .pre .4))
 
@@ -68,7 +68,7 @@ returns-4 c =
     simp (sym (c .before .before .before .before .before .content-ok .ensures) ∙ not-false _ (c .before .before .before .before .if1 .left), ne-eqb _ _ (c .before .before .before .if2 .left), eq-eqb _ _ (c .before .before .if3 .taken), lt-ltb _ _ (c .before .if4 .left))
 
 take-need-requires : tie.Need-take-need-requires
-unfolding rowOf fieldRows
+unfolding fieldRow firstRow fieldRows choose
 take-need-requires c κs =
     let h = value-long 4 _ _ (c .before .before .if5 .taken) (c .before .before .before .before .before .before .before .before .pre .4) in search needs
 
