@@ -19,3 +19,4 @@ pub mod BoardStep
 pub mod BoardSlots
 pub mod BoardLaws
 pub mod Table
+pub mod Planned

@@ -120,3 +120,8 @@ pub any-snoc : {A : Type 0} (p : A → Bool) (xs : List A) (x : A) → any p (xs
 unfolding any
 any-snoc p [] x = or-false (p x)
 any-snoc p (y ∷ xs) x = ap (λ (b : Bool). p y || b) (any-snoc p xs x) ∙ sym (or-assoc (p y) (any p xs) (p x))
+
+pub nth-mem : {A : Type 0} (l : List A) (i : ℕ) (z : A) → i < length l → List·Memᴰ (getD l i z) l
+nth-mem [] i z h = absurd (omega arith)
+nth-mem (x ∷ l) zero z h = List·Memᴰ·head refl
+nth-mem (x ∷ l) (suc i) z h = List·Memᴰ·tail (nth-mem l i z (omega arith))

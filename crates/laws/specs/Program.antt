@@ -12,6 +12,7 @@ use Rattle.rules.specs.Basics.{choose, at, Distinct}
 use Rattle.rules.specs.Needs.{Need, Gives, givesb, NeedsIn}
 use Rattle.rules.specs.Program.{givenBy, takenBy, tally, total, nth, ProgramP, SatisfiesP, delay, slots, Fits, Kept, all₂, keptb}
 use Rattle.laws.specs.Tests.{T-eqb, by-choice, tests}
+use Rattle.laws.specs.Lists.{nth-mem}
 use Rattle.laws.specs.Counting.{at-largest, largest-lt}
 
 -- the test for a need says just that
@@ -69,11 +70,6 @@ mem-index (c ∷ ds) d m = go (List·Memᴰ·cases-cons m) (mem-index ds d)
     go : (d ≡ c) ⊎ List·Memᴰ d ds → (List·Memᴰ d ds → (e : ℕ) × (e < length ds) × (nth ds e ≡ d)) → (e : ℕ) × (e < suc (length ds)) × (nth (c ∷ ds) e ≡ d)
     go (inl q) r = (0, omega arith, sym q)
     go (inr w) r = let q = r w in (suc (q .0), omega (arith, q .1), q .2)
-
-index-mem : (ds : List Need) (e : ℕ) → e < length ds → List·Memᴰ (nth ds e) ds
-index-mem [] e h = absurd (omega arith)
-index-mem (c ∷ ds) zero h = List·Memᴰ·head refl
-index-mem (c ∷ ds) (suc e) h = List·Memᴰ·tail (index-mem ds e (omega arith))
 
 -- one need more: its delay v is at most 1, and where it passes and has delay 0 the gap grows
 gap-same : (b : Bool) (v x y k : ℕ) → v ≤ 1 → x + k ≤ y → choose b (v + x) x + k ≤ choose b (suc y) y
@@ -211,7 +207,7 @@ delays-satisfy n needs C t u (kept, fits) = record {
   starts = fits .len;
   delays = length-map needs (delay t);
   zero-one = λ e h. omega (arith, at-map (delay t) needs e h, delay-is t (nth needs e) .0);
-  line1 = λ e h. rw (at-map (delay t) needs e h) (delay-is t (nth needs e) .1 (kept .later (nth needs e .0) (nth needs e .1) (index-mem needs e h)));
+  line1 = λ e h. rw (at-map (delay t) needs e h) (delay-is t (nth needs e) .1 (kept .later (nth needs e .0) (nth needs e .1) (nth-mem needs e (0, 0) h)));
   line2 = λ i h. omega (arith, fits .below i h);
   line3 = λ i h. one-free (givenBy i) (delay t) needs u (λ d e a b p q y z. given d e a b (T-eqb (d .0) i .0 p ∙ sym (T-eqb (e .0) i .0 q)) (delay-is t d .2 y) (delay-is t e .2 z));
   line4 = λ i h. one-free (takenBy i) (delay t) needs u (λ d e a b p q y z. taken d e a b (T-eqb (d .1) i .0 p ∙ sym (T-eqb (e .1) i .0 q)) (delay-is t d .2 y) (delay-is t e .2 z));
