@@ -11,7 +11,7 @@ use lib.ListN.{length}
 use lib.Dec.{T}
 use Rattle.rules.specs.Program.{slots, Fits}
 use Rattle.rules.specs.Preference.{best}
-use Rattle.laws.specs.Program.{slots-pos, slots-fits, fits-slots}
+use Rattle.laws.specs.Program.{slots-fits, fits-slots}
 use Rattle.laws.specs.Preference.{Best}
 use Rattle.laws.specs.Best.{NoWorse, BestWithin, BestWithin-unique, best-of}
 use Rattle.dominance.specs.Tries.{orElse}
@@ -21,19 +21,26 @@ unfoldable pub countUp : (ℕ → Option (List ℕ)) → ℕ → ℕ → Option 
 countUp run zero C = none
 countUp run (suc k) C = let r = countUp run k (suc C) in orElse (run C) r
 
+-- every list of n jobs that K holds of has at least C slots
+abbrev pub AtLeast : ℕ → (List ℕ → Type 0) → ℕ → Type 0
+AtLeast n K C = (u : List ℕ) → K u → length u ≡ n → C ≤ slots u
+
+-- one more, where no such list fits C
+pub at-least-next : (n : ℕ) (K : List ℕ → Type 0) (C : ℕ) → AtLeast n K C → ((u : List ℕ) → K u × Fits n C u → ⊥) → AtLeast n K (suc C)
+at-least-next n K C low no-list u h l = go (decLt C (slots u))
+  where
+    go : Dec (C < slots u) → suc C ≤ slots u
+    go (yes q) = q
+    go (no q) = absurd (no-list u (h, slots-fits n C u l (omega arith)))
+
 module _ (n : ℕ) (K : List ℕ → Type 0) (L : ℕ) (L-pos : 0 < L) (run : ℕ → Option (List ℕ)) (run-best : (C : ℕ) → C ≤ L → Best n (λ u. K u × Fits n C u) (run C)) where
-  count-within : (k C : ℕ) → C + k ≡ suc L → 0 < C → ((u : List ℕ) → K u → length u ≡ n → C ≤ slots u) → BestWithin n L K (countUp run k C)
+  count-within : (k C : ℕ) → C + k ≡ suc L → 0 < C → AtLeast n K C → BestWithin n L K (countUp run k C)
   unfolding countUp orElse
   count-within zero C e p low = λ u k f. omega (arith, low u k (f .len), fits-slots n L u L-pos f)
   count-within (suc k) C e p low = go (run C) (run-best C (omega arith)) (count-within k (suc C) (omega arith) (omega arith))
     where
-      go : (o : Option (List ℕ)) → Best n (λ u. K u × Fits n C u) o
-          → (((u : List ℕ) → K u → length u ≡ n → suc C ≤ slots u) → BestWithin n L K (countUp run k (suc C))) → BestWithin n L K (orElse o (countUp run k (suc C)))
-      go none b rest = rest (λ u h l. more u h l (decLt C (slots u)))
-        where
-          more : (u : List ℕ) → K u → length u ≡ n → Dec (C < slots u) → suc C ≤ slots u
-          more u h l (yes q) = q
-          more u h l (no q) = absurd (b u (h, slots-fits n C u l (omega arith)))
+      go : (o : Option (List ℕ)) → Best n (λ u. K u × Fits n C u) o → (AtLeast n K (suc C) → BestWithin n L K (countUp run k (suc C))) → BestWithin n L K (orElse o (countUp run k (suc C)))
+      go none b rest = rest (at-least-next n K C low b)
       go (some t) b rest = (
         b .0 .0,
         record { len = b .0 .1 .len; below = λ i h. omega (arith, b .0 .1 .below i h) },
@@ -46,6 +53,6 @@ module _ (n : ℕ) (K : List ℕ → Type 0) (L : ℕ) (L-pos : 0 < L) (run : �
               let t-le : slots t ≤ C = fits-slots n C t p (b .0 .1) in
               inr (omega arith, b .1 u (h, slots-fits n C u (f .len) (omega arith)))
 
-  -- the first makespan that has a list, and its best list, is the best start list of the rules
-  pub count-best : (p : List ℕ → Bool) → ((u : List ℕ) → T (p u) ↔ K u) → countUp run L 1 ≡ best n p L
-  count-best p p-is = BestWithin-unique n L K (countUp run L 1) (best n p L) (count-within L 1 (omega arith) (omega arith) (λ u k e. slots-pos u)) (best-of n p K p-is L)
+  -- the first makespan, from one that no list is below, that has a list, and its best list: the best start list of the rules
+  pub count-best : (p : List ℕ → Bool) → ((u : List ℕ) → T (p u) ↔ K u) → (k C : ℕ) → C + k ≡ suc L → 0 < C → AtLeast n K C → countUp run k C ≡ best n p L
+  count-best p p-is k C e c low = BestWithin-unique n L K (countUp run k C) (best n p L) (count-within k C e c low) (best-of n p K p-is L)

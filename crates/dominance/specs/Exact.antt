@@ -1,7 +1,7 @@
 -- What the maximal sets of a slot are: all candidates without a giver in the slot before, and one taker for each job there that has candidates. Assumes nothing.
 use mathlib.Core.Path.{_≡_, refl}
 use mathlib.Core.Logic.{_⊎_, inl, inr, ⊎-elim, _↔_}
-use mathlib.Core.List.{List, [], _∷_, _++_, List·Memᴰ, List·Memᴰ·head, List·Memᴰ·tail, List·Memᴰ·cases-cons, List·Memᴰ·not-nil, List·Memᴰ·append-cases, Memᴰ·append-left, Memᴰ·append-right}
+use mathlib.Core.List.{List, [], _∷_, List·Memᴰ, List·Memᴰ·head, List·Memᴰ·tail, List·Memᴰ·cases-cons, List·Memᴰ·not-nil}
 use Prim.Native.Nat.{ℕ, _+_}
 use Rattle.rules.specs.Basics.{at}
 use Rattle.rules.specs.Needs.{Gives}
@@ -29,6 +29,10 @@ pub record Exact (I : Instance) (s : ℕ) (t A : List ℕ) : Type 0 where
   pub one : (g j k : ℕ) → Gives (I .needs) g j → Gives (I .needs) g k → List·Memᴰ j A → List·Memᴰ k A → at t g + 1 ≡ s → j ≡ k
   pub served : (g j : ℕ) → Gives (I .needs) g j → Tied I s t j → at t g + 1 ≡ s → (k : ℕ) × Gives (I .needs) g k × List·Memᴰ k A
 
+-- S has just the forced jobs and the jobs of A
+abbrev pub Parts : Instance → ℕ → List ℕ → List ℕ → List ℕ → Type 0
+Parts I s t S A = (x : ℕ) → List·Memᴰ x S ↔ (Forced I s t x ⊎ List·Memᴰ x A)
+
 -- some member of A has P, or none
 decAny : {P : ℕ → Type 0} → ((i : ℕ) → Dec (P i)) → (A : List ℕ) → Dec ((k : ℕ) × P k × List·Memᴰ k A)
 decAny d [] = no (λ h. List·Memᴰ·not-nil (h .2))
@@ -41,7 +45,7 @@ decAny {P} d (x ∷ A) = go (d x) (decAny d A)
 
 module _ (I : Instance) (s : ℕ) (t : List ℕ) where
   -- a candidate that its givers let run is forced or tied
-  pub forced-or-tied : (x : ℕ) → List·Memᴰ x (I .candidates s) → Able (Gives (I .needs)) s t x → Forced I s t x ⊎ Tied I s t x
+  forced-or-tied : (x : ℕ) → List·Memᴰ x (I .candidates s) → Able (Gives (I .needs)) s t x → Forced I s t x ⊎ Tied I s t x
   forced-or-tied x m a = go (giver-before-dec (I .needs) s t x)
     where
       go : Dec (GiverBefore (I .needs) s t x) → Forced I s t x ⊎ Tied I s t x
@@ -49,32 +53,32 @@ module _ (I : Instance) (s : ℕ) (t : List ℕ) where
       go (no n) = inl record { candidate = m; able = a; alone = n }
 
   -- all that is forced, with an exact set of the tied, is maximal
-  pub exact-maximal : (F A : List ℕ) → ((x : ℕ) → List·Memᴰ x F ↔ Forced I s t x) → Exact I s t A → Maximal I s t (F ++ A)
-  exact-maximal F A F-is ex = record {
+  pub exact-maximal : (S A : List ℕ) → Parts I s t S A → Exact I s t A → Maximal I s t S
+  exact-maximal S A parts ex = record {
     allowed = record {
-      able = λ x m. ⊎-elim (λ f. F-is x .0 f .able) (λ a. ex .tied x a .able) (List·Memᴰ·append-cases F m);
-      candidate = λ x m. ⊎-elim (λ f. F-is x .0 f .candidate) (λ a. ex .tied x a .candidate) (List·Memᴰ·append-cases F m);
-      give-one = λ g j k p q mj mk e. one g j k p q e (List·Memᴰ·append-cases F mj) (List·Memᴰ·append-cases F mk);
+      able = λ x m. ⊎-elim (λ f. f .able) (λ a. ex .tied x a .able) (parts x .0 m);
+      candidate = λ x m. ⊎-elim (λ f. f .candidate) (λ a. ex .tied x a .candidate) (parts x .0 m);
+      give-one = λ g j k p q mj mk e. one g j k p q e (parts j .0 mj) (parts k .0 mk);
     };
     no-more = λ x out ok. more x out ok (forced-or-tied x (ok .candidate x (List·Memᴰ·head refl)) (ok .able x (List·Memᴰ·head refl)));
   }
     where
-      one : (g j k : ℕ) → Gives (I .needs) g j → Gives (I .needs) g k → at t g + 1 ≡ s → List·Memᴰ j F ⊎ List·Memᴰ j A → List·Memᴰ k F ⊎ List·Memᴰ k A → j ≡ k
-      one g j k p q e (inl a) b = absurd (F-is j .0 a .alone (g, p, e))
-      one g j k p q e (inr a) (inl b) = absurd (F-is k .0 b .alone (g, q, e))
+      one : (g j k : ℕ) → Gives (I .needs) g j → Gives (I .needs) g k → at t g + 1 ≡ s → Forced I s t j ⊎ List·Memᴰ j A → Forced I s t k ⊎ List·Memᴰ k A → j ≡ k
+      one g j k p q e (inl a) b = absurd (a .alone (g, p, e))
+      one g j k p q e (inr a) (inl b) = absurd (b .alone (g, q, e))
       one g j k p q e (inr a) (inr b) = ex .one g j k p q a b e
 
-      more : (x : ℕ) → ¬ (List·Memᴰ x (F ++ A)) → Allowed I s t (x ∷ F ++ A) → Forced I s t x ⊎ Tied I s t x → ⊥
-      more x out ok (inl f) = out (Memᴰ·append-left A (F-is x .1 f))
+      more : (x : ℕ) → ¬ (List·Memᴰ x S) → Allowed I s t (x ∷ S) → Forced I s t x ⊎ Tied I s t x → ⊥
+      more x out ok (inl f) = out (parts x .1 (inl f))
       more x out ok (inr d) =
           let w = ex .served (d .giver .0) x (d .giver .1) d (d .giver .2) in
-          let m : List·Memᴰ (w .0) (F ++ A) = Memᴰ·append-right F (w .2) in
+          let m : List·Memᴰ (w .0) S = parts (w .0) .1 (inr (w .2)) in
           out (rw (ok .give-one (d .giver .0) (w .0) x (w .1) (d .giver .1) (List·Memᴰ·tail m) (List·Memᴰ·head refl) (d .giver .2)) at m)
 
-  -- and each maximal set is so
-  module _ (S : List ℕ) (mx : Maximal I s t S) where
-    pub maximal-forced : (x : ℕ) → Forced I s t x → List·Memᴰ x S
-    maximal-forced x f = go (decMem x S)
+  -- and each maximal set is so, with A its tied jobs
+  module _ (S : List ℕ) (mx : Maximal I s t S) (A : List ℕ) (A-is : (x : ℕ) → List·Memᴰ x A ↔ (List·Memᴰ x S × Tied I s t x)) where
+    forced-in : (x : ℕ) → Forced I s t x → List·Memᴰ x S
+    forced-in x f = go (decMem x S)
       where
         one : (g j k : ℕ) → Gives (I .needs) g j → Gives (I .needs) g k → at t g + 1 ≡ s → (j ≡ x) ⊎ List·Memᴰ j S → (k ≡ x) ⊎ List·Memᴰ k S → j ≡ k
         one g j k p q e (inl a) b = absurd (f .alone (g, rw a at p, e))
@@ -89,11 +93,14 @@ module _ (I : Instance) (s : ℕ) (t : List ℕ) where
           give-one = λ g j k p q mj mk e. one g j k p q e (List·Memᴰ·cases-cons mj) (List·Memᴰ·cases-cons mk);
         })
 
-    pub maximal-members : (x : ℕ) → List·Memᴰ x S → Forced I s t x ⊎ Tied I s t x
-    maximal-members x m = forced-or-tied x (mx .allowed .candidate x m) (mx .allowed .able x m)
+    pub maximal-parts : Parts I s t S A
+    maximal-parts x = (
+      λ m. ⊎-elim inl (λ d. inr (A-is x .1 (m, d))) (forced-or-tied x (mx .allowed .candidate x m) (mx .allowed .able x m)),
+      λ h. ⊎-elim (forced-in x) (λ a. A-is x .0 a .0) h,
+    )
 
-    pub maximal-exact : (A : List ℕ) → ((x : ℕ) → List·Memᴰ x A ↔ (List·Memᴰ x S × Tied I s t x)) → Exact I s t A
-    maximal-exact A A-is = record {
+    pub maximal-exact : Exact I s t A
+    maximal-exact = record {
       tied = λ x m. A-is x .0 m .1;
       one = λ g j k p q mj mk e. mx .allowed .give-one g j k p q (A-is j .0 mj .0) (A-is k .0 mk .0) e;
       served = λ g j p d e. served g j p d e (decAny (gives-dec (I .needs) g) A);
@@ -112,7 +119,7 @@ module _ (I : Instance) (s : ℕ) (t : List ℕ) where
             none h k a b r m =
                 let q : h ≡ g = d .able .take-one h g a p r e in
                 let b′ : Gives (I .needs) g k = rw q at b in
-                ⊎-elim (λ f. f .alone (g, b′, e)) (λ z. w (k, b′, A-is k .1 (m, z))) (maximal-members k m)
+                ⊎-elim (λ f. f .alone (g, b′, e)) (λ z. w (k, b′, z)) (maximal-parts k .0 m)
 
             one : (h i k : ℕ) → Gives (I .needs) h i → Gives (I .needs) h k → at t h + 1 ≡ s → (i ≡ j) ⊎ List·Memᴰ i S → (k ≡ j) ⊎ List·Memᴰ k S → i ≡ k
             one h i k a b r (inl x) (inl y) = rw (x, y) refl

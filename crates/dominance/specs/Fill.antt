@@ -71,8 +71,17 @@ pub record Filled (n : ℕ) (N : ℕ → ℕ → Type 0) (s : ℕ) (xs : List �
 module _ (n : ℕ) (N : ℕ → ℕ → Type 0) (s : ℕ) (family Room : List ℕ → Type 0) where
   pub fill : (xs : List ℕ) → Closed n N s xs family Room → (u : List ℕ) → family u → Filled n N s xs family Room u
   fill [] c u g = record { list = u; good = g; weak = inl refl; grown = λ i. inl refl; full = inr (λ j m. absurd (List·Memᴰ·not-nil m)) }
-  fill (x ∷ xs) c u g = go (c .room-dec u) (c .may-dec u x) (fill xs record { len = c .len; in-n = λ j m. c .in-n j (List·Memᴰ·tail m); move = λ v j m. c .move v j (List·Memᴰ·tail m); room-dec = c .room-dec; may-dec = c .may-dec })
+  fill (x ∷ xs) c u g = go (c .room-dec u) (c .may-dec u x) (fill xs rest)
     where
+      rest : Closed n N s xs family Room
+      rest = record {
+        len = c .len;
+        in-n = λ j m. c .in-n j (List·Memᴰ·tail m);
+        move = λ v j m. c .move v j (List·Memᴰ·tail m);
+        room-dec = c .room-dec;
+        may-dec = c .may-dec;
+      }
+
       x-in : x < n
       x-in = c .in-n x (List·Memᴰ·head refl)
 

@@ -1,4 +1,4 @@
--- From the exchange law to the model of the search over lists, and that it finds the best start list.
+-- From the exchange law to the model of the search over lists, and that it finds the best start list. Assumes nothing.
 pub mod Exchange
 pub mod Tries
 pub mod Sublists

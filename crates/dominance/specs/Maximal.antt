@@ -109,8 +109,8 @@ module _ (I : Instance) (s : ℕ) (t : List ℕ) where
           ab = ok .able x (List·Memᴰ·head refl)
 
   -- the maximal sets, tried in order, find the best list of the state, if each finds the best of its own
-  maximal-slot : (Ss : List (List ℕ)) → TriesMaximal I s t Ss → s < I .C → State I s t → (f : List ℕ → Option (List ℕ))
-      → ((S : List ℕ) → State I (suc s) (place s S t) → Best (I .n) (Good I (suc s) (place s S t)) (f S)) → Best (I .n) (Good I s t) (first f Ss)
+  pub maximal-slot : (Ss : List (List ℕ)) → TriesMaximal I s t Ss → s < I .C → State I s t → (f : List ℕ → Option (List ℕ))
+      → ((S : List ℕ) → List·Memᴰ S Ss → State I (suc s) (place s S t) → Best (I .n) (Good I (suc s) (place s S t)) (f S)) → Best (I .n) (Good I s t) (first f Ss)
   maximal-slot Ss tm h st f hf =
       first-best (I .n) s (Good I s t) (good-past I s t) f Ss (tm .ordered) (λ S m i k. I .candidates-in s i (tm .maximal S m .allowed .candidate i k)) cover branch
     where
@@ -124,7 +124,7 @@ module _ (I : Instance) (s : ℕ) (t : List ℕ) where
       branch S m =
           let ok = tm .maximal S m .allowed in
           Best-iff (I .n) (Good I (suc s) (place s S t)) (λ u. Good I s t u × Row (I .n) s S u) (good-up I s t S h st ok) (λ u g. good-down I s t S h st ok u (g .0) (g .1))
-          (f S) (hf S (next-state I s t S h st ok))
+          (f S) (hf S m (next-state I s t S h st ok))
 
 -- a step that tries the maximal sets in order is right
 pub maximal-right : (I : Instance) (step : Step) → ((s : ℕ) (t : List ℕ) → s < I .C → State I s t → TriesMaximal I s t (step s t)) → Right (I .n) (I .C) (State I) (Good I) step

@@ -1,7 +1,7 @@
 -- The model of the search over lists: makespans counted up, slots one after the other, in each slot the maximal sets in the order of
 -- preference. It gives the best start list. Assumes nothing.
 use mathlib.Core.Path.{_≡_}
-use mathlib.Core.Logic.{⊎-elim, _↔_}
+use mathlib.Core.Logic.{inl, inr, ⊎-elim, _↔_}
 use mathlib.Core.Bool.{Bool, not, _&&_}
 use mathlib.Core.List.{List, _++_, map, List·Memᴰ, List·Memᴰ·append-cases, Memᴰ·append-left, Memᴰ·append-right}
 use mathlib.Core.Option.{Option}
@@ -16,7 +16,7 @@ use Rattle.rules.specs.Preference.{best}
 use Rattle.rules.specs.Windows.{releases, release, swap, tail}
 use Rattle.laws.specs.Tests.{T-and, T-not, T-has}
 use Rattle.laws.specs.Lists.{Within, Rising, map-mem, map-mem⁻¹, filter-mem, filter-mem⁻¹, filter-rising}
-use Rattle.laws.specs.Program.{kept-is}
+use Rattle.laws.specs.Program.{kept-is, slots-pos}
 use Rattle.laws.specs.Preference.{Best}
 use Rattle.dominance.specs.Tries.{Sooner, ordered-map, ordered-filter}
 use Rattle.dominance.specs.Sublists.{sublists, sublists-within, filter-sublist, sublists-ordered}
@@ -24,7 +24,7 @@ use Rattle.dominance.specs.States.{Instance, State, Good, start-state}
 use Rattle.dominance.specs.Search.{Step, search, search-best}
 use Rattle.dominance.specs.Tests.{ableb, able-is, giverBeforeb, giver-before-is, oneb, one-is, servedb, served-is}
 use Rattle.dominance.specs.Maximal.{Maximal, TriesMaximal, maximal-right}
-use Rattle.dominance.specs.Exact.{Forced, Tied, Exact, exact-maximal, maximal-forced, maximal-members, maximal-exact}
+use Rattle.dominance.specs.Exact.{Forced, Tied, Exact, Parts, exact-maximal, maximal-parts, maximal-exact}
 use Rattle.dominance.specs.Windows.{inWindow, release-bounds, windowed, windowed-best}
 use Rattle.dominance.specs.Count.{countUp, count-best}
 
@@ -96,11 +96,18 @@ module _ (I : Instance) (s : ℕ) (t : List ℕ) where
         (one-is (I .needs) s t A .1 (ex .one), served-is (I .needs) s t B A .1 (λ g j p m e. ex .served g j p (tied-is j .0 m) e)),
   )
 
-  pub maximal-tries : TriesMaximal I s t (maximalSets (I .needs) (I .candidates) s t)
+  -- a set of tied jobs with all that is forced
+  parts : (A : List ℕ) → Parts I s t (F ++ A) A
+  parts A x = (
+    λ m. ⊎-elim (λ f. inl (forced-is x .0 f)) (λ a. inr a) (List·Memᴰ·append-cases F m),
+    λ h. ⊎-elim (λ f. Memᴰ·append-left A (forced-is x .1 f)) (λ a. Memᴰ·append-right F a) h,
+  )
+
+  -- the sets that slot s tries are the maximal ones
+  maximal-tries : TriesMaximal I s t (maximalSets (I .needs) (I .candidates) s t)
   unfolding maximalSets
   maximal-tries = record {
-    maximal = map-mem⁻¹ (Maximal I s t) (λ A. F ++ A) exacts (λ A m. let w = filter-mem⁻¹ exactb (sublists B) A m in
-        exact-maximal I s t F A forced-is (exact-is A (sublists-within B A (w .0)) .0 (w .1)));
+    maximal = map-mem⁻¹ (Maximal I s t) (λ A. F ++ A) exacts (λ A m. exact-maximal I s t (F ++ A) A (parts A) (exact-is A (within A m) .0 (filter-mem⁻¹ exactb (sublists B) A m .1)));
     each = each;
     ordered = ordered-map (λ A. F ++ A) exacts (λ A R m k. joined A R (within A m)) (ordered-filter exactb (sublists B) (sublists-ordered B B-rising));
   }
@@ -118,15 +125,19 @@ module _ (I : Instance) (s : ℕ) (t : List ℕ) where
       joined A R wi d = record {
         job = d .job;
         has = Memᴰ·append-right F (d .has);
-        lacks = λ m. ⊎-elim (λ f. forced-is (d .job) .0 f .alone (tied-is (d .job) .0 (wi (d .job) (d .has)) .giver)) (d .lacks) (List·Memᴰ·append-cases F m);
+        lacks = λ m. ⊎-elim (λ f. f .alone (tied-is (d .job) .0 (wi (d .job) (d .has)) .giver)) (d .lacks) (parts R (d .job) .0 m);
         lower = λ i h. (
-          λ m. ⊎-elim (λ f. Memᴰ·append-left R f) (λ a. Memᴰ·append-right F (d .lower i h .0 a)) (List·Memᴰ·append-cases F m),
-          λ m. ⊎-elim (λ f. Memᴰ·append-left A f) (λ a. Memᴰ·append-right F (d .lower i h .1 a)) (List·Memᴰ·append-cases F m),
+          λ m. parts R i .1 (⊎-elim inl (λ a. inr (d .lower i h .0 a)) (parts A i .0 m)),
+          λ m. parts A i .1 (⊎-elim inl (λ a. inr (d .lower i h .1 a)) (parts R i .0 m)),
         );
       }
 
       each : (S : List ℕ) → Maximal I s t S → (R : List ℕ) × List·Memᴰ R (map (λ A. F ++ A) exacts) × ((i : ℕ) → List·Memᴰ i S ↔ List·Memᴰ i R)
-      each S mx = (F ++ A, map-mem (λ A. F ++ A) exacts A (filter-mem exactb (sublists B) A (filter-sublist (λ x. has x S) B) (exact-is A wi .1 ex)), same)
+      each S mx = (
+        F ++ A,
+        map-mem (λ A. F ++ A) exacts A (filter-mem exactb (sublists B) A (filter-sublist (λ x. has x S) B) (exact-is A (λ x m. filter-mem⁻¹ (λ x. has x S) B x m .0) .1 (maximal-exact I s t S mx A A-is))),
+        λ i. (λ m. parts A i .1 (maximal-parts I s t S mx A A-is i .0 m), λ m. maximal-parts I s t S mx A A-is i .1 (parts A i .0 m)),
+      )
         where
           A : List ℕ
           A = filter (λ x. has x S) B
@@ -137,30 +148,20 @@ module _ (I : Instance) (s : ℕ) (t : List ℕ) where
             λ h. filter-mem (λ x. has x S) B x (tied-is x .1 (h .1)) (T-has x S .1 (h .0)),
           )
 
-          wi : Within A B
-          wi x m = filter-mem⁻¹ (λ x. has x S) B x m .0
-
-          ex : Exact I s t A
-          ex = maximal-exact I s t S mx A A-is
-
-          same : (i : ℕ) → List·Memᴰ i S ↔ List·Memᴰ i (F ++ A)
-          same i = (
-            λ m. ⊎-elim (λ f. Memᴰ·append-left A (forced-is i .1 f)) (λ d. Memᴰ·append-right F (A-is i .1 (m, d))) (maximal-members I s t S mx i m),
-            λ m. ⊎-elim (λ f. maximal-forced I s t S mx i (forced-is i .0 f)) (λ a. A-is i .0 a .0) (List·Memᴰ·append-cases F m),
-          )
-
 -- ---- so the model gives the best start list
 
 pub plan-is-best : (n : ℕ) (needs : List Need) (L : ℕ) → NeedsIn n needs → 0 < L → plan n needs L ≡ best n (keptb needs) L
 unfolding plan
-plan-is-best n needs L needs-in l = count-best n (λ u. Kept (Gives needs) (at u)) L l run run-best (keptb needs) (kept-is needs)
+plan-is-best n needs L needs-in l = count-best n (λ u. Kept (Gives needs) (at u)) L l run run-best (keptb needs) (kept-is needs) L 1 (omega arith) (omega arith) (λ u k e. slots-pos u)
   where
+    step : ℕ → Step
+    step C = maximalSets needs (inWindow n (release n needs) (tail n needs) C)
+
     run : ℕ → Option (List ℕ)
-    run C = search (maximalSets needs (inWindow n (release n needs) (tail n needs) C)) C 0 (replicate n L)
+    run C = search (step C) C 0 (replicate n L)
 
     run-best : (C : ℕ) → C ≤ L → Best n (λ u. Kept (Gives needs) (at u) × Fits n C u) (run C)
     run-best C h =
         let I : Instance = windowed n needs needs-in (release n needs) (tail n needs) C L h in
         windowed-best n needs needs-in (release n needs) (tail n needs) C L h (release-bounds n needs needs-in) (run C)
-        (search-best n C (State I) (Good I) (maximalSets needs (inWindow n (release n needs) (tail n needs) C)) (maximal-right I (maximalSets needs (inWindow n (release n needs) (tail n needs) C)) (λ s t p st. maximal-tries I s t))
-        C 0 (replicate n L) (omega arith) (start-state I))
+        (search-best n C (State I) (Good I) (step C) (maximal-right I (step C) (λ s t p st. maximal-tries I s t)) C 0 (replicate n L) (omega arith) (start-state I))

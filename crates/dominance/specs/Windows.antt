@@ -1,5 +1,6 @@
 -- The candidates of a slot by the windows of the jobs: no list that keeps the rules starts any other. Assumes nothing.
-use mathlib.Core.List.{List}
+use mathlib.Core.Logic.{_↔_}
+use mathlib.Core.List.{List, List·Memᴰ}
 use mathlib.Core.Option.{Option}
 use Prim.Native.Nat.{ℕ, _+_, _≤_, _<_}
 use Rattle.rules.specs.Basics.{at, range}
@@ -17,6 +18,12 @@ use Rattle.dominance.specs.States.{Instance, Good, start, start-good}
 -- the jobs whose windows hold slot s, by releases, tails and makespan
 abbrev pub inWindow : ℕ → (ℕ → ℕ) → (ℕ → ℕ) → ℕ → ℕ → List ℕ
 inWindow n rel tl C s = passing (window rel tl C s) n
+
+pub in-window : (n : ℕ) (rel tl : ℕ → ℕ) (C s i : ℕ) → List·Memᴰ i (inWindow n rel tl C s) ↔ ((i < n) × (rel i ≤ s) × (s + 1 + tl i ≤ C))
+in-window n rel tl C s i =
+    let p = passing-in (window rel tl C s) n i in
+    let w = window-is rel tl C s i in
+    (λ m. let r = p .0 m in let v = w .0 (r .1) in (r .0, v .0, v .1), λ h. p .1 (h .0, w .1 (h .1, h .2)))
 
 -- ρ and θ bound the starts of every list that keeps the rules: no job starts before its ρ, and θ slots follow it
 pub record Bounds (n : ℕ) (needs : List Need) (ρ θ : ℕ → ℕ) : Type 0 where
@@ -42,11 +49,11 @@ module _ (n : ℕ) (needs : List Need) (needs-in : NeedsIn n needs) (ρ θ : ℕ
     needs-in = needs-in;
     roof = roof;
     rising = λ s. filter-rising (window ρ θ C s) (range n 0) (range-rising n 0);
-    candidates-in = λ s j m. passing-in (window ρ θ C s) n j .0 m .0;
+    candidates-in = λ s j m. in-window n ρ θ C s j .0 m .0;
   }
 
   -- what is best for its first state is best of all lists that keep the rules and fit. (A first slot or a last end of a job would narrow
   -- the windows, and be asked of the lists here)
   pub windowed-best : Bounds n needs ρ θ → (o : Option (List ℕ)) → Best n (Good windowed 0 (start windowed)) o → Best n (λ u. Kept (Gives needs) (at u) × Fits n C u) o
   windowed-best bd o h = Best-iff n (Good windowed 0 (start windowed)) (λ u. Kept (Gives needs) (at u) × Fits n C u) (λ u g. (g .kept, g .fits))
-      (λ u k. start-good windowed u (k .0) (k .1) (λ i l. passing-in (window ρ θ C (at u i)) n i .1 (l, window-is ρ θ C (at u i) i .1 (bd .early u (k .0) i l, bd .late u C (k .0) (k .1) i l)))) o h
+      (λ u k. start-good windowed u (k .0) (k .1) (λ i l. in-window n ρ θ C (at u i) i .1 (l, bd .early u (k .0) i l, bd .late u C (k .0) (k .1) i l))) o h

@@ -9,4 +9,6 @@ pub mod FallingSubsets
 pub mod OneMember
 pub mod Lowest
 pub mod Members
+pub mod Size
+pub mod Highest
 pub mod Arrays

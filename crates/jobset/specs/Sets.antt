@@ -4,7 +4,7 @@ use mathlib.Core.Bool.{Bool, true, false}
 use mathlib.Core.List.{List, [], _∷_}
 use Prim.Native.Nat.{ℕ, zero, suc, _-_, _/_, _%_, _^_}
 use lib.Bits.{bitAnd, bitOr, bitXor}
-use lib.Count.{trailingZeros}
+use lib.Count.{leadingZeros, ones, trailingZeros}
 use lib.Dec.{eqb}
 use Rattle.rules.specs.Basics.{choose, at}
 use Rattle.jobset.specs.declared.Set.{Set}
@@ -65,9 +65,17 @@ isEmpty s = eqb (s .bits) 0
 unfoldable pub isOne : Set → Bool
 isOne s = choose (isEmpty s) false (eqb (bitAnd (s .bits) (s .bits - 1)) 0)
 
+-- the number of members of s (law `size-members`)
+unfoldable pub size : Set → ℕ
+size s = ones (s .bits)
+
 -- the lowest member of s, or 64
 unfoldable pub lowest : Set → ℕ
 lowest s = trailingZeros 64 (s .bits)
+
+-- the highest member of s, where it has one
+unfoldable pub highest : Set → ℕ
+highest s = 63 - leadingZeros 64 (s .bits)
 
 -- of the subset s of t, the subset of t with the next smaller number
 unfoldable pub nextBelow : Set → Set → Set
@@ -83,3 +91,14 @@ membersFrom (suc k) i s =
 -- the members of s, rising
 unfoldable pub members : Set → List ℕ
 members s = membersFrom 64 0 s
+
+-- the members of s among the k lowest places, falling: the jobs at these places in rising number
+unfoldable pub fallingFrom : ℕ → Set → List ℕ
+fallingFrom zero s = []
+fallingFrom (suc k) s =
+    let rest = fallingFrom k s in
+    choose (member s k) (k ∷ rest) rest
+
+-- the members of s, falling
+unfoldable pub falling : Set → List ℕ
+falling s = fallingFrom 64 s

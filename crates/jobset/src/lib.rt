@@ -3,8 +3,9 @@
 // in one of them alone: document 01's order of preference within a slot is the order of the numbers.
 // Callers use the laws of membership in specs/ and never the bits.
 ghost use mathlib.Core.Path.{_≡_};
+ghost use mathlib.Core.Bool.{false};
 ghost use Prim.Native.Nat.{_<_};
-ghost use Rattle.jobset.specs.Sets.{digit, member, one, with, without, union, minus, intersection, isSubset, isEmpty, isOne, lowest, nextBelow};
+ghost use Rattle.jobset.specs.Sets.{digit, member, one, with, without, union, minus, intersection, isSubset, isEmpty, isOne, size, lowest, highest, nextBelow};
 
 pub struct Set {
     pub bits: u64,
@@ -102,11 +103,26 @@ impl Set {
         }
     }
 
+    // How many members has it?
+    pub fn size(self) -> u32
+        ensures { λ r. ⌜ r ≡ size self ⌝ }
+    {
+        u64::count_ones(self.bits)
+    }
+
     // The lowest member; 64 where there is none.
     pub fn lowest(self) -> u32
         ensures { λ r. ⌜ r ≡ lowest self ⌝ }
     {
         u64::trailing_zeros(self.bits)
+    }
+
+    // The highest member of a set that has one: the place of its first job.
+    pub fn highest(self) -> u32
+        requires { ⌜ isEmpty self ≡ false ⌝ }
+        ensures { λ r. ⌜ r ≡ highest self ⌝ }
+    {
+        63 - u64::leading_zeros(self.bits)
     }
 
     // 1 where i is a member, else 0.

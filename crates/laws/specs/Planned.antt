@@ -86,7 +86,7 @@ module _ (f : JobFile) (ok : Readable f) where
       kept : Kept (Gives (f .needs)) (at t) × Fits (length (f .jobs)) (slots t) t
       kept = program-is (length (f .jobs)) (f .needs) (slots t) t (ok .distinct) needs-in .0 (short .satisfies)
 
-      few-boards : largest (boards (length (f .jobs)) (f .needs) t) ≤ maxWidth
+      pub few-boards : largest (boards (length (f .jobs)) (f .needs) t) ≤ maxWidth
       few-boards = omega (
         arith,
         boards-width (length (f .jobs)) (f .needs) needs-in t (kept .1 .len) (kept .0) (f .limit) (ok .limit-in .0) (record { len = kept .1 .len; below = λ i h. omega (arith, kept .1 .below i h, short .fits) }),

@@ -1,0 +1,64 @@
+-- An array that is filled job by job: its entries, and the array by place of a list. Assumes nothing.
+use mathlib.Core.Path.{_≡_, refl, sym, _∙_}
+use mathlib.Core.List.{List}
+use Prim.Native.Nat.{ℕ, zero, suc, _+_, _-_, _≤_, _<_}
+use native.Mathlib.Decide.{ℕ-discrete}
+use native.Mathlib.Nat.{zero-add}
+use native.Mathlib.Numerals.{add-one}
+use native.Mathlib.Omega.{arith}
+use lib.ListN.{length, set, length-set}
+use lib.Seq.{ext-getD, getD-set-same, getD-set-other}
+use Rattle.rules.specs.Basics.{at, tabulate}
+use Rattle.laws.specs.Lists.{tabulate-at, length-tabulate}
+use Rattle.boards.specs.Placing.{filled}
+
+module _ (f : ℕ → ℕ) (a : List ℕ) where
+  pub filled-none : filled f a 0 ≡ a
+  unfolding filled
+  filled-none = refl
+
+  pub filled-next : (i : ℕ) → set (filled f a i) (63 - i) (f i) ≡ filled f a (i + 1)
+  unfolding filled
+  filled-next i = rw (add-one i)
+
+  pub filled-size : (k : ℕ) → length (filled f a k) ≡ length a
+  unfolding filled
+  filled-size zero = refl
+  filled-size (suc k) = length-set (filled f a k) (63 - k) (f k) ∙ filled-size k
+
+  -- a job that is filled in
+  pub filled-done : length a ≡ 64 → (k i : ℕ) → i < k → k ≤ 64 → at (filled f a k) (63 - i) ≡ f i
+  unfolding filled
+  filled-done len zero i l h = absurd (omega arith)
+  filled-done len (suc k) i l h = go (ℕ-discrete i k) (λ j. filled-done len k i j (omega arith))
+    where
+      go : Dec (i ≡ k) → (i < k → at (filled f a k) (63 - i) ≡ f i) → at (set (filled f a k) (63 - k) (f k)) (63 - i) ≡ f i
+      go (yes e) r = rw e (getD-set-same (filled f a k) (63 - k) (f k) 0 (omega (arith, filled-size k)))
+      go (no e) r = getD-set-other (filled f a k) (63 - k) (63 - i) (f k) 0 (λ q. e (omega arith)) ∙ r (omega arith)
+
+  -- a job that is not yet
+  pub filled-later : (k i : ℕ) → k ≤ i → i < 64 → at (filled f a k) (63 - i) ≡ at a (63 - i)
+  unfolding filled
+  filled-later zero i h l = refl
+  filled-later (suc k) i h l = getD-set-other (filled f a k) (63 - k) (63 - i) (f k) 0 (λ e. omega arith) ∙ filled-later k i (omega arith) l
+
+-- an array with entry i of the list at place 63 - i, 0 where the list has none
+unfoldable pub byPlace : List ℕ → List ℕ
+byPlace l = tabulate (λ p. at l (63 - p)) 64 0
+
+-- an array of 64 entries, that of each job at its place
+pub by-place-is : (l a : List ℕ) → length a ≡ 64 → ((i : ℕ) → i < 64 → at a (63 - i) ≡ at l i) → a ≡ byPlace l
+unfolding byPlace
+by-place-is l a len h = ext-getD 0 a (byPlace l) (len ∙ sym (length-tabulate (λ p. at l (63 - p)) 64 0)) (λ p k. go p (omega arith))
+  where
+    go : (p : ℕ) → p < 64 → at a p ≡ at (tabulate (λ q. at l (63 - q)) 64 0) p
+    go p k =
+        let e : 63 - (63 - p) ≡ p = omega arith in
+        rw (tabulate-at (λ q. at l (63 - q)) 64 0 p 0 k, zero-add) (rw e at (h (63 - p) (omega arith)))
+
+-- the entry of job i
+pub by-place-at : (l : List ℕ) (i : ℕ) → i < 64 → at (byPlace l) (63 - i) ≡ at l i
+unfolding byPlace
+by-place-at l i h =
+    let e : 63 - (63 - i) ≡ i = omega arith in
+    tabulate-at (λ p. at l (63 - p)) 64 0 (63 - i) 0 (omega arith) ∙ rw (zero-add, e)

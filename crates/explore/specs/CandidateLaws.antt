@@ -1,0 +1,150 @@
+-- The candidates of a slot by membership, and the exact subsets by what each tying job has in them. Assumes nothing.
+use mathlib.Core.Path.{_≡_, refl, sym, _∙_}
+use mathlib.Core.Logic.{_↔_, Iff·trans}
+use mathlib.Core.Bool.{Bool, true, false, _&&_, _||_, and-eq-true-iff, or-false, or-assoc, false≢true}
+use mathlib.Core.List.{List, [], _∷_, List·Memᴰ}
+use Prim.Native.Nat.{ℕ, zero, suc, _<_}
+use native.Mathlib.Omega.{arith}
+use borrow.Author.Tests.{eq-eqb, eqb-true}
+use lib.Dec.{T, eqb}
+use Rattle.rules.specs.Basics.{choose, all, any, range, filter}
+use Rattle.laws.specs.Tests.{T-all, T-any, T-true}
+use Rattle.laws.specs.Lists.{range-in, range-all, filter-mem, filter-mem⁻¹}
+use Rattle.jobset.specs.declared.Set.{Set}
+use Rattle.jobset.specs.Sets.{setAt, member, intersection, isSubset, isEmpty, isOne, membersFrom, members, Subset}
+use Rattle.jobset.specs.Membership.{member-empty, member-with, member-union}
+use Rattle.jobset.specs.Inclusion.{is-subset}
+use Rattle.explore.specs.declared.Candidates.{Candidates}
+use Rattle.explore.specs.Slot.{Tables, isForced, isTied, sortJob, sortJobs, noCandidates, candidatesOf, exact, allowed}
+
+-- ---- the list of the members of a set
+
+members-filter : (k i : ℕ) (s : Set) → membersFrom k i s ≡ filter (member s) (range k i)
+unfolding membersFrom filter range
+members-filter zero i s = refl
+members-filter (suc k) i s = rw (members-filter k (suc i) s)
+
+-- the list has just the members
+pub in-members : (s : Set) (i : ℕ) → List·Memᴰ i (members s) ↔ ((i < 64) × (member s i ≡ true))
+unfolding members
+in-members s i = rw (members-filter 64 0 s) (
+  λ m. let w = filter-mem⁻¹ (member s) (range 64 0) i m in (omega (arith, range-in 64 0 i (w .0)), T-true (member s i) .0 (w .1)),
+  λ h. filter-mem (member s) (range 64 0) i (range-all 64 0 i (omega arith) (omega (arith, h .0))) (T-true (member s i) .1 (h .1)),
+)
+
+-- ---- the candidates
+
+-- no set is both empty and of one member
+forced-not-tied : (done last givers : Set) → isForced done last givers ≡ true → isTied done last givers ≡ false
+unfolding isForced isTied isOne choose
+forced-not-tied done last givers h = let w = and-eq-true-iff (isSubset givers done) (isEmpty (intersection givers last)) .0 h in rw (w .0, w .1)
+
+module _ (done last : Set) where
+  -- what one more job adds to each of the three sets
+  sort-forced : (i : ℕ) (g : Set) (c : Candidates) (x : ℕ) → member (sortJob done last i g c .forced) x ≡ (member (c .forced) x || (isForced done last g && eqb x i))
+  unfolding sortJob choose
+  sort-forced i g c x = go (isForced done last g) refl (isTied done last g) refl
+    where
+      go : (f : Bool) → isForced done last g ≡ f → (t : Bool) → isTied done last g ≡ t → member (sortJob done last i g c .forced) x ≡ (member (c .forced) x || (f && eqb x i))
+      go true e t q = rw (e) (member-with (c .forced) i x)
+      go false e true q = rw (e, q, or-false)
+      go false e false q = rw (e, q, or-false)
+
+  sort-tied : (i : ℕ) (g : Set) (c : Candidates) (x : ℕ) → member (sortJob done last i g c .tied) x ≡ (member (c .tied) x || (isTied done last g && eqb x i))
+  unfolding sortJob choose
+  sort-tied i g c x = go (isForced done last g) refl (isTied done last g) refl
+    where
+      go : (f : Bool) → isForced done last g ≡ f → (t : Bool) → isTied done last g ≡ t → member (sortJob done last i g c .tied) x ≡ (member (c .tied) x || (t && eqb x i))
+      go true e true q = absurd (false≢true (sym (forced-not-tied done last g e) ∙ q))
+      go true e false q = rw (e, or-false)
+      go false e true q = rw (e, q) (member-with (c .tied) i x)
+      go false e false q = rw (e, q, or-false)
+
+  sort-tying : (i : ℕ) (g : Set) (c : Candidates) (x : ℕ) → member (sortJob done last i g c .tying) x ≡ (member (c .tying) x || (isTied done last g && member (intersection g last) x))
+  unfolding sortJob choose
+  sort-tying i g c x = go (isForced done last g) refl (isTied done last g) refl
+    where
+      go : (f : Bool) → isForced done last g ≡ f → (t : Bool) → isTied done last g ≡ t
+          → member (sortJob done last i g c .tying) x ≡ (member (c .tying) x || (t && member (intersection g last) x))
+      go true e true q = absurd (false≢true (sym (forced-not-tied done last g e) ∙ q))
+      go true e false q = rw (e, or-false)
+      go false e true q = rw (e, q) (member-union (c .tying) (intersection g last) x)
+      go false e false q = rw (e, q, or-false)
+
+  -- so for all jobs: `part` is one of the three sets, `adds i g x` whether job i with givers g puts x into it
+  module _ (givers : List ℕ) (part : Candidates → Set) (adds : ℕ → Set → ℕ → Bool)
+      (law : (i : ℕ) (g : Set) (c : Candidates) (x : ℕ) → member (part (sortJob done last i g c)) x ≡ (member (part c) x || adds i g x)) where
+    sorted : (is : List ℕ) (c : Candidates) (x : ℕ) → member (part (sortJobs givers done last c is)) x ≡ (member (part c) x || any (λ i. adds i (setAt givers i) x) is)
+    unfolding sortJobs any
+    sorted [] c x = rw (or-false)
+    sorted (i ∷ is) c x = rw (sorted is (sortJob done last i (setAt givers i) c) x, law i (setAt givers i) c x, or-assoc)
+
+    in-sorted : (free : Set) (x : ℕ) → member (part noCandidates) x ≡ false
+        → (member (part (candidatesOf givers free done last)) x ≡ true) ↔ ((i : ℕ) × ((i < 64) × (member free i ≡ true)) × (adds i (setAt givers i) x ≡ true))
+    unfolding candidatesOf
+    in-sorted free x e = rw (sorted (members free) noCandidates x, e) (
+      λ h. let w = T-any (λ i. adds i (setAt givers i) x) (members free) .0 (T-true (any (λ i. adds i (setAt givers i) x) (members free)) .1 h) in
+          (w .0, in-members free (w .0) .0 (w .1), T-true (adds (w .0) (setAt givers (w .0)) x) .0 (w .2)),
+      λ w. T-true (any (λ i. adds i (setAt givers i) x) (members free)) .0 (T-any (λ i. adds i (setAt givers i) x) (members free) .1
+          (w .0, in-members free (w .0) .1 (w .1), T-true (adds (w .0) (setAt givers (w .0)) x) .1 (w .2))),
+    )
+
+  module _ (givers : List ℕ) (free : Set) where
+    -- the job i that puts x into a set is x itself
+    itself : (test : Set → Bool) (x : ℕ) → ((i : ℕ) × ((i < 64) × (member free i ≡ true)) × ((test (setAt givers i) && eqb x i) ≡ true))
+        ↔ ((x < 64) × (member free x ≡ true) × (test (setAt givers x) ≡ true))
+    itself test x = (
+      λ w. let v = and-eq-true-iff (test (setAt givers (w .0))) (eqb x (w .0)) .0 (w .2) in
+          rw (eqb-true x (w .0) (v .1)) (w .1 .0, w .1 .1, v .0),
+      λ h. (x, (h .0, h .1), and-eq-true-iff (test (setAt givers x)) (eqb x x) .1 (h .2, eq-eqb x x refl)),
+    )
+
+    -- the forced jobs: free, with all givers done and none in the slot before
+    pub in-forced : (x : ℕ) → (member (candidatesOf givers free done last .forced) x ≡ true) ↔ ((x < 64) × (member free x ≡ true) × (isForced done last (setAt givers x) ≡ true))
+    in-forced x = Iff·trans (in-sorted givers (λ c. c .forced) (λ i g x. isForced done last g && eqb x i) sort-forced free x (member-empty x)) (itself (isForced done last) x)
+
+    -- the tied jobs: free, with all givers done and exactly one in the slot before
+    pub in-tied : (x : ℕ) → (member (candidatesOf givers free done last .tied) x ≡ true) ↔ ((x < 64) × (member free x ≡ true) × (isTied done last (setAt givers x) ≡ true))
+    in-tied x = Iff·trans (in-sorted givers (λ c. c .tied) (λ i g x. isTied done last g && eqb x i) sort-tied free x (member-empty x)) (itself (isTied done last) x)
+
+    -- the tying jobs: the givers in the slot before of the tied ones
+    pub record Tying (x : ℕ) : Type 0 where
+      pub taker : ℕ
+      pub below-64 : taker < 64
+      pub is-free : member free taker ≡ true
+      pub is-tied : isTied done last (setAt givers taker) ≡ true
+      pub is-giver : member (intersection (setAt givers taker) last) x ≡ true
+
+    pub in-tying : (x : ℕ) → (member (candidatesOf givers free done last .tying) x ≡ true) ↔ Tying x
+    in-tying x = (
+      λ h. let w = sums .0 h in
+          let v = and-eq-true-iff (isTied done last (setAt givers (w .0))) (member (intersection (setAt givers (w .0)) last) x) .0 (w .2) in
+          record { taker = w .0; below-64 = w .1 .0; is-free = w .1 .1; is-tied = v .0; is-giver = v .1 },
+      λ t. let v = and-eq-true-iff (isTied done last (setAt givers (t .taker))) (member (intersection (setAt givers (t .taker)) last) x) .1 (t .is-tied, t .is-giver) in
+          sums .1 (t .taker, (t .below-64, t .is-free), v),
+    )
+      where
+        sums : (member (candidatesOf givers free done last .tying) x ≡ true)
+            ↔ ((i : ℕ) × ((i < 64) × (member free i ≡ true)) × ((isTied done last (setAt givers i) && member (intersection (setAt givers i) last) x) ≡ true))
+        sums = in-sorted givers (λ c. c .tying) (λ i g x. isTied done last g && member (intersection g last) x) sort-tying free x (member-empty x)
+
+-- ---- exact: each tying job has exactly one taker in the subset
+
+pub exact-iff : (takers : List ℕ) (tying subset : Set)
+    → (exact takers tying subset ≡ true) ↔ ((j : ℕ) → j < 64 → member tying j ≡ true → isOne (intersection subset (setAt takers j)) ≡ true)
+unfolding exact
+exact-iff takers tying subset = (
+  λ h j l m. T-true (one-taker j) .0 (T-all one-taker (members tying) .0 (T-true (all one-taker (members tying)) .1 h) j (in-members tying j .1 (l, m))),
+  λ f. T-true (all one-taker (members tying)) .0 (T-all one-taker (members tying) .1 (λ j m. let w = in-members tying j .0 m in T-true (one-taker j) .1 (f j (w .0) (w .1)))),
+)
+  where
+    one-taker : ℕ → Bool
+    one-taker j = isOne (intersection subset (setAt takers j))
+
+-- allowed: a subset of the tied jobs that is exact
+pub allowed-iff : (T : Tables) (c : Candidates) (subset : Set) → (allowed T c subset ≡ true) ↔ (Subset subset (c .tied) × (exact (T .takers) (c .tying) subset ≡ true))
+unfolding allowed
+allowed-iff T c subset = (
+  λ h. let w = and-eq-true-iff (isSubset subset (c .tied)) (exact (T .takers) (c .tying) subset) .0 h in (is-subset subset (c .tied) .0 (w .0), w .1),
+  λ h. and-eq-true-iff (isSubset subset (c .tied)) (exact (T .takers) (c .tying) subset) .1 (is-subset subset (c .tied) .1 (h .0), h .1),
+)

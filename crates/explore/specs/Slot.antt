@@ -1,0 +1,78 @@
+-- One slot of the search: the tables of a job file, the jobs whose windows hold a slot, the candidates. Assumes nothing.
+use mathlib.Core.Bool.{Bool, _&&_}
+use mathlib.Core.List.{List, [], _∷_}
+use Prim.Native.Nat.{ℕ, _+_}
+use Rattle.rules.specs.Basics.{choose, all}
+use Rattle.jobset.specs.declared.Set.{Set}
+use Rattle.jobset.specs.Sets.{setAt, empty, with, union, minus, intersection, isSubset, isEmpty, isOne, members}
+use Rattle.explore.specs.declared.Candidates.{Candidates}
+
+-- what the search knows of a job file, all as sets of places: the givers and the takers of each job,
+-- released s: the jobs with a release below s, followed k: the jobs with a tail of at least k (so followed 0 is all jobs)
+pub record Tables : Type 0 where
+  pub givers : List ℕ
+  pub takers : List ℕ
+  pub released : List ℕ
+  pub followed : List ℕ
+
+abbrev pub tables : List ℕ → List ℕ → List ℕ → List ℕ → Tables
+tables givers takers released followed = record { givers = givers; takers = takers; released = released; followed = followed }
+
+-- ---- the windows, at a slot with `left` slots left, itself among them
+
+-- the jobs whose deadline is the slot or before
+unfoldable pub dueAt : Tables → ℕ → Set
+dueAt T left = setAt (T .followed) left
+
+-- the jobs whose windows hold the slot
+unfoldable pub windowOf : List ℕ → List ℕ → ℕ → ℕ → Set
+windowOf released followed left slot = minus (setAt released (slot + 1)) (setAt followed left)
+
+-- the jobs whose windows hold the slot before
+unfoldable pub heldBefore : List ℕ → List ℕ → ℕ → ℕ → Set
+heldBefore released followed left slot = minus (setAt released slot) (setAt followed (left + 1))
+
+-- ---- the candidates, `done` having run before the slot and `last` in the slot before
+
+-- the givers are done, and none of them ran in the slot before
+unfoldable pub isForced : Set → Set → Set → Bool
+isForced done last givers = isSubset givers done && isEmpty (intersection givers last)
+
+-- the givers are done, and exactly one of them ran in the slot before
+unfoldable pub isTied : Set → Set → Set → Bool
+isTied done last givers = isSubset givers done && isOne (intersection givers last)
+
+-- one more job, with its givers: a candidate if forced or tied; the giver that a tied one has in the slot before is tying
+unfoldable pub sortJob : Set → Set → ℕ → Set → Candidates → Candidates
+sortJob done last i givers c =
+    choose (isForced done last givers) (record { forced = with (c .forced) i; tied = c .tied; tying = c .tying })
+    (choose (isTied done last givers) (record { forced = c .forced; tied = with (c .tied) i; tying = union (c .tying) (intersection givers last) }) c)
+
+unfoldable pub sortJobs : List ℕ → Set → Set → Candidates → List ℕ → Candidates
+sortJobs givers done last c [] = c
+sortJobs givers done last c (i ∷ is) = sortJobs givers done last (sortJob done last i (setAt givers i) c) is
+
+abbrev pub noCandidates : Candidates
+noCandidates = record { forced = empty; tied = empty; tying = empty }
+
+-- the candidates among the jobs `free`
+unfoldable pub candidatesOf : List ℕ → Set → Set → Set → Candidates
+candidatesOf givers free done last = sortJobs givers done last noCandidates (members free)
+
+-- the candidates of a slot
+unfoldable pub candidatesAt : Tables → ℕ → ℕ → Set → Set → Candidates
+candidatesAt T left slot done last = candidatesOf (T .givers) (minus (windowOf (T .released) (T .followed) left slot) done) done last
+
+-- ---- what may run in the slot: the forced jobs and an allowed subset of the tied ones
+
+-- each tying job has exactly one taker in the subset
+unfoldable pub exact : List ℕ → Set → Set → Bool
+exact takers tying subset = all (λ i. isOne (intersection subset (setAt takers i))) (members tying)
+
+-- a subset of the tied jobs with exactly one taker of each tying job
+unfoldable pub allowed : Tables → Candidates → Set → Bool
+allowed T c subset = isSubset subset (c .tied) && exact (T .takers) (c .tying) subset
+
+-- the jobs of the slot, for the subset of the tied ones with number n
+unfoldable pub slotSet : Candidates → ℕ → Set
+slotSet c n = union (c .forced) (record { bits = n })

@@ -1,0 +1,139 @@
+-- Questions 2 to 12: a refusal, or what the rest is given. Assumes nothing.
+use mathlib.Core.Path.{_≡_, refl, sym, ap, ap₂, subst, _∙_}
+use mathlib.Core.Bool.{Bool, true, false}
+use mathlib.Core.List.{List, [], _∷_, _++_, map}
+use Prim.Native.Nat.{ℕ, zero, suc, _≤_, _<_, _^_}
+use native.Mathlib.Omega.{arith}
+use lib.ListN.{length, drop, replicate}
+use lib.Seq.{drop-at}
+use lib.Dec.{T, leb}
+use Rattle.rules.specs.Basics.{at}
+use Rattle.rules.specs.Numbers.{Bytes}
+use Rattle.rules.specs.Fields.{Answer, refused, got, ask, after, numberOf}
+use Rattle.rules.specs.Needs.{Need, NeedsIn, circleFree}
+use Rattle.rules.specs.JobFile.{JobFile, readFile}
+use Rattle.rules.specs.Windows.{swap, width}
+use Rattle.rules.specs.Answers.{planTable, plan, cleared}
+use Rattle.laws.specs.Tests.{T-true, T-leb, tests, choose-yes, choose-no}
+use Rattle.laws.specs.Fields.{ask-yes, ask-no}
+use Rattle.laws.specs.JobFile.{read-got, readable}
+use Rattle.laws.specs.Deadlines.{swap-in}
+use Rattle.jobset.specs.Arrays.{GiversAre, TakersAre}
+use Rattle.jobfile.specs.declared.JobFile as reader
+use Rattle.jobfile.specs.Reading.{Reads}
+use Rattle.windows.specs.declared.JobLevels.{JobLevels}
+use Rattle.windows.specs.declared.JobWindows.{JobWindows}
+use Rattle.windows.specs.Levels.{levelsOf}
+use Rattle.windows.specs.Held.{takers-reversed}
+use Rattle.windows.specs.LevelLaws.{levels-ok}
+use Rattle.windows.specs.Windows.{windowsOf, fileWindows, widthIn}
+use Rattle.windows.specs.FileWindows.{file-width}
+use Rattle.planner.specs.declared.Planned.the-variants as made
+use Rattle.bitmap.specs.Marks.{cleared as zeroed}
+use Rattle.planner.specs.declared.Planned.{Planned}
+use Rattle.planner.specs.Planner.{outcomeOf, Answers, size, JobsRead, WindowsRead}
+use Rattle.planner.specs.Searched.{jobs-few, limit-few, file-needs}
+use Rattle.planner.specs.Tabled.{answers-refused}
+
+-- ---- questions 2 to 10
+
+-- a list of numbers below 256 is a byte string
+bytes-of : (l : List ℕ) → ((i : ℕ) → at l i < 256) → Bytes l
+bytes-of [] h = tt
+bytes-of (x ∷ l) h = (h 0, bytes-of l (λ i. h (suc i)))
+
+number-refused : {A : Type 0} (r : Answer A) (q : ℕ) → q ≡ numberOf r → (q ≡ 0 → ⊥) → r ≡ refused q
+unfolding numberOf
+number-refused (refused p) q e n = ap refused (sym e)
+number-refused (got a) q e n = absurd (n e)
+
+module _ (bs : List ℕ) (r : reader.JobFile) (reads : Reads bs r) where
+  -- the reader refuses
+  pub read-refused : (q : ℕ) (table : List ℕ) → r .number ≡ q → (q ≡ 0 → ⊥) → Answers bs (made.Refused q) table table
+  unfolding after
+  read-refused q table e n = answers-refused bs q table (ap (λ (x : Answer JobFile). after x planTable) (number-refused (readFile bs) q (sym e ∙ reads .number-is) n))
+
+  -- or the arrays hold the file
+  pub jobs-read : r .number ≡ 0 → ((i : ℕ) → at bs i < 256) → ((p : ℕ) → at (r .givers) p < 2 ^ 64) → JobsRead bs (r .jobs) (r .limit) (r .offsets) (r .givers) (r .takers)
+  jobs-read z bytes small =
+      let f = read-got bs (sym (reads .number-is) ∙ z) in
+      record { file = f .0; read = f .1; keeps = readable bs (bytes-of bs bytes) (f .0) (f .1); held = reads .held (f .0) (f .1); givers-small = small }
+
+-- ---- questions 11 and 12
+
+module _ (bs : List ℕ) (n L : ℕ) (o g t : List ℕ) (j : JobsRead bs n L o g t) where
+  -- the levels by the givers, and by the takers
+  module _ (before : JobLevels) (is : before ≡ levelsOf n (j .file .needs)) where
+    circle-test : before .ok ≡ circleFree (size (j .file)) (j .file .needs)
+    circle-test = ap (λ (x : JobLevels). x .ok) is ∙ levels-ok n (j .file .needs) ∙ ap (λ (k : ℕ). circleFree k (j .file .needs)) (j .held .jobs-is)
+
+    pub refused-11 : (table : List ℕ) → before .ok ≡ false → Answers bs (made.Refused 11) table table
+    unfolding after planTable
+    refused-11 table e = answers-refused bs 11 table (ap (λ (x : Answer JobFile). after x planTable) (j .read) ∙ ask-no (circleFree (size (j .file)) (j .file .needs)) 11 _ (λ c. go (sym circle-test ∙ e) c))
+      where
+        go : circleFree (size (j .file)) (j .file .needs) ≡ false → T (circleFree (size (j .file)) (j .file .needs)) → ⊥
+        go z c = rw z at c
+
+    module _ (yes : before .ok ≡ true) where
+      free : T (circleFree (size (j .file)) (j .file .needs))
+      free = T-true _ .1 (sym circle-test ∙ yes)
+
+      module _ (behind : JobLevels) (behind-is : behind ≡ levelsOf n (map swap (j .file .needs))) (w : JobWindows) (w-is : w ≡ windowsOf (before .level) (behind .level) n) where
+        file-windows : w ≡ fileWindows (size (j .file)) (j .file .needs)
+        file-windows =
+            w-is ∙ ap₂ (λ (x y : JobLevels). windowsOf (x .level) (y .level) n) is behind-is
+            ∙ ap (λ (k : ℕ). fileWindows k (j .file .needs)) (j .held .jobs-is)
+
+        width-test : widthIn (w .released) (w .followed) L ≡ width (size (j .file)) (j .file .needs) (j .file .limit)
+        width-test =
+            ap (λ (x : JobWindows). widthIn (x .released) (x .followed) L) file-windows
+            ∙ ap (widthIn (fileWindows (size (j .file)) (j .file .needs) .released) (fileWindows (size (j .file)) (j .file .needs) .followed)) (j .held .limit-is)
+            ∙ file-width (size (j .file)) (jobs-few bs n L o g t j) (j .file .needs) (file-needs bs n L o g t j) (T-true _ .0 free) (j .file .limit) (limit-few bs n L o g t j)
+
+        module _ (k : ℕ) (k-is : k ≡ widthIn (w .released) (w .followed) L) where
+          pub refused-12 : (table : List ℕ) → 8 < k → Answers bs (made.Refused 12) table table
+          unfolding after planTable
+          refused-12 table h =
+              answers-refused bs 12 table (ap (λ (x : Answer JobFile). after x planTable) (j .read) ∙ ask-yes (circleFree (size (j .file)) (j .file .needs)) 11 _ free
+              ∙ ask-no (leb (width (size (j .file)) (j .file .needs) (j .file .limit)) 8) 12 _ (λ c. omega (arith, T-leb (width (size (j .file)) (j .file .needs) (j .file .limit)) 8 .0 c, k-is, width-test)))
+
+          -- no circle and not too wide: what the search is given
+          pub windows-read : k ≤ 8 → WindowsRead bs n L o g t (w .released) (w .followed) (w .least)
+          windows-read h = record {
+            jobs = j;
+            free = free;
+            narrow = omega (arith, k-is, width-test);
+            released-is = ap (λ (x : JobWindows). x .released) file-windows;
+            followed-is = ap (λ (x : JobWindows). x .followed) file-windows;
+            least-is = ap (λ (x : JobWindows). x .least) file-windows;
+          }
+
+  in-jobs : NeedsIn n (j .file .needs)
+  in-jobs = rw (j .held .jobs-is) (file-needs bs n L o g t j)
+
+  -- what the levels are of this file: by the givers, and by the takers, which are the givers of the reversed needs
+  pub givers-levels : (r : JobLevels) → ((needs : List Need) → NeedsIn n needs → GiversAre g needs → r ≡ levelsOf n needs) → r ≡ levelsOf n (j .file .needs)
+  givers-levels r h = h (j .file .needs) in-jobs (j .held .givers-are)
+
+  pub takers-levels : (r : JobLevels) → ((needs : List Need) → NeedsIn n needs → GiversAre t needs → r ≡ levelsOf n needs) → r ≡ levelsOf n (map swap (j .file .needs))
+  takers-levels r h = h (map swap (j .file .needs)) (swap-in n (j .file .needs) in-jobs) (takers-reversed t (j .file .needs) (j .held .takers-are))
+
+-- ---- question 1, and the working buffer afterwards
+
+module _ (file work table : List ℕ) where
+  -- a buffer is too small: nothing is changed
+  pub short-work : length work < 65536 → record { number = 1; length = 0; table = table; work = work } ≡ plan file work table
+  unfolding plan
+  short-work h = sym (choose-no _ _ _ (λ c. let d : (65536 ≤ length work) × (1222 ≤ length table) = simp tests at c in omega (arith, d)))
+
+  pub short-table : length table < 1222 → record { number = 1; length = 0; table = table; work = work } ≡ plan file work table
+  unfolding plan
+  short-table h = sym (choose-no _ _ _ (λ c. let d : (65536 ≤ length work) × (1222 ≤ length table) = simp tests at c in omega (arith, d)))
+
+  -- both are full: what the rest answers, with the working buffer cleared, whatever its front holds
+  pub full-buffers : (r : Planned) (part work′ table′ : List ℕ) → 65536 ≤ length work → 1222 ≤ length table → length part ≡ 65536
+      → work′ ≡ zeroed 65536 (part ++ drop 65536 work) → Answers file r table table′ → outcomeOf r work′ table′ ≡ plan file work table
+  unfolding plan Answers cleared zeroed
+  full-buffers r part work′ table′ hw ht e z a =
+      ap (λ (w : List ℕ). outcomeOf r w table′) (z ∙ ap (replicate 65536 0 ++_) (drop-at part (drop 65536 work) 65536 e))
+      ∙ a work ∙ sym (choose-yes _ _ _ (simp tests (hw, ht)))

@@ -1,0 +1,47 @@
+-- What the planner gives, and what its parts are given. Assumes nothing.
+use mathlib.Core.Path.{_≡_}
+use mathlib.Core.List.{List}
+use Prim.Native.Nat.{ℕ, _≤_, _<_, _^_}
+use lib.ListN.{length}
+use lib.Dec.{T}
+use Rattle.rules.specs.Basics.{at}
+use Rattle.rules.specs.Fields.{got, after}
+use Rattle.rules.specs.Needs.{circleFree}
+use Rattle.rules.specs.JobFile.{JobFile, readFile}
+use Rattle.rules.specs.Windows.{width}
+use Rattle.rules.specs.Answers.{planTable, Outcome, cleared, written}
+use Rattle.laws.specs.JobFile.{Readable}
+use Rattle.jobfile.specs.Reading.{Held}
+use Rattle.windows.specs.Windows.{fileWindows}
+use Rattle.planner.specs.declared.Planned.{Planned}
+use Rattle.planner.specs.declared.Planned.the-variants.{Table, Refused}
+
+-- number, length and both buffers: what document 01 says of an answer
+abbrev pub outcomeOf : Planned → List ℕ → List ℕ → Outcome
+outcomeOf (Table n) work table = record { number = 0; length = n; table = table; work = work }
+outcomeOf (Refused q) work table = record { number = q; length = 0; table = table; work = work }
+
+-- the answer for a file with full buffers: the table buffer before and after; the working buffer is cleared afterwards
+unfoldable pub Answers : List ℕ → Planned → List ℕ → List ℕ → Type 0
+Answers bs r table table′ = (work : List ℕ) → outcomeOf r (cleared work) table′ ≡ written (after (readFile bs) planTable) work table
+
+-- the file is readable, and the arrays hold what it says
+pub record JobsRead (bs : List ℕ) (n L : ℕ) (offsets givers takers : List ℕ) : Type 0 where
+  pub file : JobFile
+  pub read : readFile bs ≡ got file
+  pub keeps : Readable file
+  pub held : Held bs file (record { fields = file .fields; limit = L; jobs = n; offsets = offsets; givers = givers; takers = takers })
+  pub givers-small : (p : ℕ) → at givers p < 2 ^ 64
+
+-- the number of its jobs
+abbrev pub size : JobFile → ℕ
+size f = length (f .jobs)
+
+-- and it has no circle and is not too wide; the tables are its windows
+pub record WindowsRead (bs : List ℕ) (n L : ℕ) (offsets givers takers released followed : List ℕ) (least : ℕ) : Type 0 where
+  pub jobs : JobsRead bs n L offsets givers takers
+  pub free : T (circleFree (size (jobs .file)) (jobs .file .needs))
+  pub narrow : width (size (jobs .file)) (jobs .file .needs) (jobs .file .limit) ≤ 8
+  pub released-is : released ≡ fileWindows (size (jobs .file)) (jobs .file .needs) .released
+  pub followed-is : followed ≡ fileWindows (size (jobs .file)) (jobs .file .needs) .followed
+  pub least-is : least ≡ fileWindows (size (jobs .file)) (jobs .file .needs) .least

@@ -1,0 +1,55 @@
+-- The search on a file's windows finds the rules' best start list. Assumes nothing.
+use mathlib.Core.Path.{_≡_, refl, sym, ap, _∙_}
+use mathlib.Core.List.{List}
+use mathlib.Core.Option.{Option, none, some}
+use Prim.Native.Nat.{ℕ, _+_, _-_, _≤_, _<_}
+use native.Mathlib.Omega.{arith}
+use lib.ListN.{length}
+use Rattle.rules.specs.Basics.{at}
+use Rattle.rules.specs.Needs.{NeedsIn, Circle}
+use Rattle.rules.specs.JobFile.{JobFile}
+use Rattle.rules.specs.Program.{slots, keptb}
+use Rattle.rules.specs.Preference.{best}
+use Rattle.laws.specs.Tests.{T-true}
+use Rattle.laws.specs.Circles.{circle-free}
+use Rattle.laws.specs.Program.{slots-pos}
+use Rattle.laws.specs.Best.{Shortest, best-found}
+use Rattle.search.specs.declared.Found.{Found}
+use Rattle.search.specs.Shortest.{shortest}
+use Rattle.explore.specs.Slot.{tables}
+use Rattle.explore.specs.States.{WellFormed}
+use Rattle.windows.specs.Windows.{fileWindows}
+use Rattle.optimal.specs.Starts.{byPlace}
+use Rattle.optimal.specs.SearchIsBest.{answerOf}
+use Rattle.optimal.specs.OfFile.{file-well-formed, file-is-best}
+use Rattle.planner.specs.Planner.{size, JobsRead, WindowsRead}
+
+module _ (bs : List ℕ) (n L : ℕ) (o g t : List ℕ) (j : JobsRead bs n L o g t) where
+  pub jobs-few : size (j .file) ≤ 64
+  jobs-few = j .keeps .jobs-in .1
+
+  pub limit-few : j .file .limit ≤ 64
+  limit-few = j .keeps .limit-in .1
+
+  pub file-needs : NeedsIn (size (j .file)) (j .file .needs)
+  file-needs a b m = let w = j .keeps .needs-in a b m in (w .0, w .1)
+
+module _ (bs : List ℕ) (n L : ℕ) (o g t rel fol : List ℕ) (least : ℕ) (w : WindowsRead bs n L o g t rel fol least) where
+  f : JobFile
+  f = w .jobs .file
+
+  pub no-circle : ¬ (Circle (w .jobs .file .needs))
+  no-circle = circle-free (size (w .jobs .file)) (w .jobs .file .needs) (file-needs bs n L o g t (w .jobs)) .0 (w .free)
+
+  -- what the search asks
+  pub well-formed : WellFormed rel fol L
+  well-formed =
+      rw (w .released-is, w .followed-is, w .jobs .held .limit-is)
+      (file-well-formed (size (w .jobs .file)) (w .jobs .file .needs) (w .jobs .file .limit) (jobs-few bs n L o g t (w .jobs)) (limit-few bs n L o g t (w .jobs)) (file-needs bs n L o g t (w .jobs)) (T-true _ .0 (w .free)) (w .narrow))
+
+  -- what it finds
+  pub found-best : shortest (tables g t rel fol) (L + 1 - least) least ≡ answerOf (best (size (w .jobs .file)) (keptb (w .jobs .file .needs)) (w .jobs .file .limit))
+  found-best =
+      rw (w .released-is, w .followed-is, w .least-is, w .jobs .held .limit-is)
+      (file-is-best (size (w .jobs .file)) (w .jobs .file .needs) (w .jobs .file .limit) (jobs-few bs n L o g t (w .jobs)) (limit-few bs n L o g t (w .jobs)) (file-needs bs n L o g t (w .jobs)) (T-true _ .0 (w .free))
+      g t (w .jobs .held .givers-are) (w .jobs .givers-small) (w .jobs .held .takers-are) (w .jobs .keeps .jobs-in .0) (w .jobs .keeps .limit-in .0))
