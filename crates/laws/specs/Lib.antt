@@ -20,3 +20,4 @@ pub mod BoardSlots
 pub mod BoardLaws
 pub mod Table
 pub mod Planned
+pub mod Demands
