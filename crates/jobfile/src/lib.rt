@@ -149,7 +149,7 @@ fn refusal_of(f: FieldAnswer) -> u8
 }
 
 // Is each byte of the name behind the level 33 to 126?
-fn name_ok(v: &[u8]) -> bool
+pub fn name_ok(v: &[u8]) -> bool
     requires { ⌜ 2 ≤ length (now v) ⌝ }
     ensures { λ r. ⌜ r ≡ all nameByte (drop 2 (now (v .entry))) ⌝ }
 {

@@ -1,29 +1,36 @@
--- Demands 1 and 3 of document 01, said of the planner's whole answer: number, size and both buffers. Assumes nothing.
+-- Demands 1 to 3 of document 01, said of the planner's whole answer: number, size and both buffers. Assumes nothing.
 use mathlib.Core.Path.{_≡_, refl, sym, ap, _∙_}
 use mathlib.Core.Logic.{_↔_}
 use mathlib.Core.Bool.{_&&_}
 use mathlib.Core.List.{List, _++_}
+use mathlib.Core.Option.{Option, none, some}
 use Prim.Native.Nat.{ℕ, _≤_, _<_}
 use native.Mathlib.Omega.{arith}
-use lib.ListN.{length, drop}
+use lib.ListN.{length, take, drop}
+use lib.Seq.{take-at}
 use lib.Dec.{leb}
 use Rattle.rules.specs.Sizes.{maxWidth, workSize, tableSize}
 use Rattle.rules.specs.Basics.{at, largest}
 use Rattle.rules.specs.Numbers.{Bytes}
-use Rattle.rules.specs.Fields.{Answer, refused, got, after}
-use Rattle.rules.specs.Needs.{Gives, NeedsIn, Circle}
+use Rattle.rules.specs.Fields.{Answer, refused, got, after, field}
+use Rattle.rules.specs.Needs.{Gives, NeedsIn, Circle, circleFree}
 use Rattle.rules.specs.JobFile.{JobFile, readFile}
-use Rattle.rules.specs.Program.{SatisfiesP, Kept, Fits, slots}
+use Rattle.rules.specs.Program.{SatisfiesP, Kept, Fits, slots, keptb}
 use Rattle.rules.specs.Windows.{width}
+use Rattle.rules.specs.Preference.{best}
 use Rattle.rules.specs.Boards.{BoardRules, boards}
-use Rattle.rules.specs.Table.{Table, encode}
-use Rattle.rules.specs.Answers.{Outcome, tableOf, planTable, cleared, written, plan}
-use Rattle.laws.specs.Tests.{tests, by-choice, choose-yes}
+use Rattle.rules.specs.Table.{Table, starts, boardsOf, encode}
+use Rattle.rules.specs.Answers.{Outcome, tableOf, tabled, planTable, cleared, written, plan, check}
+use Rattle.laws.specs.Tests.{T-leb, tests, by-choice, choose-yes}
+use Rattle.laws.specs.Fields.{ask-got, after-got, Numbered, numbered-ask, numbered-after}
+use Rattle.laws.specs.Circles.{circle-free}
 use Rattle.laws.specs.Program.{program-is}
-use Rattle.laws.specs.JobFile.{Readable, readable}
+use Rattle.laws.specs.JobFile.{Readable, readable, read-numbered}
 use Rattle.laws.specs.Best.{Shortest}
 use Rattle.laws.specs.BoardLaws.{boards-rules, boards-least}
-use Rattle.laws.specs.Planned.{refused-13, written-where}
+use Rattle.laws.specs.Planned.{refused-13, written-where, written-is, table-ok, rows-count, starts-are, boards-are, table-for, reads-back}
+use Rattle.laws.specs.Check.{Labelled, check-exactly}
+use Rattle.laws.specs.Table.{encode-length}
 
 -- ---- demand 1
 
@@ -94,3 +101,94 @@ module _ (file work table : List ℕ) (bytes : Bytes file) (work-full : workSize
       number-13 : (a : Answer Table) → written a work table .number ≡ 13 → a ≡ refused 13
       number-13 (refused q) e = ap refused e
       number-13 (got T) e = absurd (omega (arith, e))
+
+-- ---- every table written, whatever the file
+
+-- the table is that of a shortest list of a file without a circle, not too wide
+record FromFile (f : JobFile) (T : Table) : Type 0 where
+  no-circle : ¬ (Circle (f .needs))
+  narrow : width (length (f .jobs)) (f .needs) (f .limit) ≤ maxWidth
+  list : List ℕ
+  short : Shortest (length (f .jobs)) (f .needs) (f .limit) list
+  table-is : T ≡ tableOf f list
+
+from-file : (f : JobFile) → Readable f → (T : Table) → planTable f ≡ got T → FromFile f T
+unfolding planTable
+from-file f ok T e =
+    let a = ask-got (circleFree (length (f .jobs)) (f .needs)) 11 _ T e in
+    let b = ask-got (leb (width (length (f .jobs)) (f .needs) (f .limit)) maxWidth) 12 _ T (a .1) in
+    let free = circle-free (length (f .jobs)) (f .needs) (λ g k z. let w = ok .needs-in g k z in (w .0, w .1)) .0 (a .0) in
+    let low = T-leb (width (length (f .jobs)) (f .needs) (f .limit)) maxWidth .0 (b .0) in
+    let w = written-is f ok free low T e in
+    record { no-circle = free; narrow = low; list = w .0; short = w .1; table-is = w .2 }
+
+module _ (file work table : List ℕ) where
+  -- the questions 2 to 13
+  abbrev asked : Answer Table
+  asked = after (readFile file) planTable
+
+  asked-numbered : Numbered asked
+  unfolding planTable tabled Numbered
+  asked-numbered = numbered-after (readFile file) planTable (read-numbered file) (λ f.
+      numbered-ask (circleFree (length (f .jobs)) (f .needs)) 11 _ (λ e. omega (arith, e)) (numbered-ask (leb (width (length (f .jobs)) (f .needs) (f .limit)) maxWidth) 12 _ (λ e. omega (arith, e))
+      (found-numbered f (best (length (f .jobs)) (keptb (f .needs)) (f .limit)))))
+    where
+      found-numbered : (f : JobFile) (o : Option (List ℕ)) → Numbered (tabled f o)
+      found-numbered f none = λ e. omega (arith, e)
+      found-numbered f (some t) = tt
+
+  -- what holds of each answer: that of refusal 1, of the others, and of each table
+  each-answer : (P : Outcome → Type 0) → P (record { number = 1; length = 0; table = table; work = work }) → ((q : ℕ) → (q ≡ 0 → ⊥) → P (written (refused q) work table))
+      → ((T : Table) → asked ≡ got T → P (written (got T) work table)) → P (plan file work table)
+  unfolding plan Numbered
+  each-answer P one other tabled = by-choice P (leb workSize (length work) && leb tableSize (length table)) (λ _. of asked refl asked-numbered) (λ _. one)
+    where
+      of : (a : Answer Table) → asked ≡ a → Numbered a → P (written a work table)
+      of (refused q) e m = other q m
+      of (got T) e m = tabled T e
+
+  -- a table has bytes, so no answer is both without a refusal and without a table
+  pub table-has-bytes : plan file work table .number ≡ 0 → 0 < plan file work table .length
+  unfolding written encode field
+  table-has-bytes = each-answer (λ (o : Outcome). o .number ≡ 0 → 0 < o .length) (λ e. omega (arith, e)) (λ q m e. absurd (m e)) (λ T _ _. omega arith)
+
+  module _ (bytes : Bytes file) where
+    -- "The longest table is 1,222 bytes"
+    pub plan-size : plan file work table .length ≤ tableSize
+    unfolding written
+    plan-size = each-answer (λ (o : Outcome). o .length ≤ tableSize) (omega arith) (λ q m. omega arith) (λ T e.
+        let r = after-got (readFile file) planTable T e in
+        let ok = readable file bytes (r .0) (r .1) in
+        let w = from-file (r .0) ok T (r .2) in
+        rw (w .table-is) (encode-length (tableOf (r .0) (w .list)) (table-ok (r .0) ok (w .no-circle) (w .narrow) (w .list) (w .short))
+        (omega (arith, rows-count (r .0) ok (w .no-circle) (w .narrow) (w .list) (w .short), ok .jobs-in))))
+
+    -- demand 2: "every table the planner writes passes and reads back with the planned starts and boards, the file's names and its levels in centimetres"
+    pub record ReadsBack (o : Outcome) : Type 0 where
+      pub file-read : JobFile
+      pub read : readFile file ≡ got file-read
+      pub list : List ℕ
+      pub bytes-are : take (o .length) (o .table) ≡ encode (tableOf file-read list)
+      pub passes : check file (encode (tableOf file-read list)) ≡ got (tableOf file-read list)
+      pub starts-back : starts (tableOf file-read list) ≡ list
+      pub boards-back : boardsOf (tableOf file-read list) ≡ boards (length (file-read .jobs)) (file-read .needs) list
+      pub labels-back : Labelled (length (file-read .jobs)) (file-read .jobs) (tableOf file-read list .rows)
+
+    pub reads-back-passes : plan file work table .number ≡ 0 → ReadsBack (plan file work table)
+    unfolding written
+    reads-back-passes = each-answer (λ (o : Outcome). o .number ≡ 0 → ReadsBack o) (λ e. absurd (omega (arith, e))) (λ q m e. absurd (m e)) (λ T e _.
+        let r = after-got (readFile file) planTable T e in
+        let f = r .0 in
+        let ok = readable file bytes f (r .1) in
+        let w = from-file f ok T (r .2) in
+        let fits = table-for f ok (w .no-circle) (w .narrow) (w .list) (w .short) in
+        record {
+          file-read = f;
+          read = r .1;
+          list = w .list;
+          bytes-are = take-at (encode T) (drop (length (encode T)) table) (length (encode T)) refl ∙ ap encode (w .table-is);
+          passes = check-exactly file bytes f (r .1) (w .no-circle) (encode (tableOf f (w .list))) (tableOf f (w .list)) .1 (reads-back f ok (w .no-circle) (w .narrow) (w .list) (w .short), fits);
+          starts-back = starts-are f ok (w .no-circle) (w .narrow) (w .list) (w .short);
+          boards-back = boards-are f ok (w .no-circle) (w .narrow) (w .list) (w .short);
+          labels-back = fits .labels;
+        })

@@ -185,10 +185,10 @@ readable bs b f q =
     done g so t = let h = simp tests at t in
         record { limit-in = so .limit-in (h .0); jobs-in = (h .1, so .few); levels-in = so .levels-in; names-in = so .names-in; needs-in = so .needs-in; distinct = so .distinct }
 
--- the number of a reading is 0 just where the file is readable
-pub read-got : (bs : List ℕ) → numberOf (readFile bs) ≡ 0 → (f : JobFile) × (readFile bs ≡ got f)
+-- no refusal of a reading has the number 0
+pub read-numbered : (bs : List ℕ) → Numbered (readFile bs)
 unfolding readFile readField addField addNeed complete Numbered
-read-got bs e = numbered-got (readFile bs) all-numbered e
+read-numbered bs = numbered-ask _ 2 _ (some 1) (numbered-after _ complete (numbered-fields (readField bs) field-numbered (length bs) bs 0 noFields) (λ f. numbered-ask _ 10 _ (some 9) tt))
   where
     some : (q : ℕ) → suc q ≡ 0 → ⊥
     some q z = omega arith
@@ -199,5 +199,6 @@ read-got bs e = numbered-got (readFile bs) all-numbered e
         (by-choice Numbered (eqb (at bs a) 2) (λ _. tt) (λ _. by-choice Numbered (eqb (at bs a) 3) (λ _. numbered-ask _ 7 _ (some 6) tt)
         (λ _. by-choice Numbered (eqb (at bs a) 4) (λ _. numbered-ask _ 8 _ (some 7) (numbered-ask _ 9 _ (some 8) tt)) (λ _. tt)))))))
 
-    all-numbered : Numbered (readFile bs)
-    all-numbered = numbered-ask _ 2 _ (some 1) (numbered-after _ complete (numbered-fields (readField bs) field-numbered (length bs) bs 0 noFields) (λ f. numbered-ask _ 10 _ (some 9) tt))
+-- the number of a reading is 0 just where the file is readable
+pub read-got : (bs : List ℕ) → numberOf (readFile bs) ≡ 0 → (f : JobFile) × (readFile bs ≡ got f)
+read-got bs e = numbered-got (readFile bs) (read-numbered bs) e

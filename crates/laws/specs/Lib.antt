@@ -19,5 +19,7 @@ pub mod BoardStep
 pub mod BoardSlots
 pub mod BoardLaws
 pub mod Table
+pub mod Check
+pub mod Refusals
 pub mod Planned
 pub mod Demands

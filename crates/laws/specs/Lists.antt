@@ -1,5 +1,5 @@
 -- Lists: membership, ranges, filtering, tabulating. Assumes nothing.
-use mathlib.Core.Path.{_≡_, refl, sym, ap, _∙_}
+use mathlib.Core.Path.{_≡_, refl, sym, ap, ap₂, _∙_}
 use mathlib.Core.Logic.{_⊎_, inl, inr}
 use mathlib.Core.Bool.{Bool, true, false, _||_, or-false, or-assoc}
 use mathlib.Core.List.{List, [], _∷_, _++_, map, List·Memᴰ, List·Memᴰ·head, List·Memᴰ·tail, List·Memᴰ·cases-cons, List·Memᴰ·not-nil}
@@ -9,7 +9,7 @@ use native.Mathlib.Decide.{ℕ-discrete}
 use native.Mathlib.Nat.{add-zero}
 use lib.ListN.{length, getD}
 use lib.Dec.{T}
-use Rattle.rules.specs.Basics.{choose, any, has, filter, range, tabulate}
+use Rattle.rules.specs.Basics.{choose, at, any, has, filter, range, tabulate}
 use Rattle.laws.specs.Tests.{T-has, by-test}
 
 -- every member of S is one of xs
@@ -125,3 +125,12 @@ pub nth-mem : {A : Type 0} (l : List A) (i : ℕ) (z : A) → i < length l → L
 nth-mem [] i z h = absurd (omega arith)
 nth-mem (x ∷ l) zero z h = List·Memᴰ·head refl
 nth-mem (x ∷ l) (suc i) z h = List·Memᴰ·tail (nth-mem l i z (omega arith))
+
+-- a list that is tabulated through another
+pub map-tabulate : {A : Type 0} (g : A → ℕ) (f : ℕ → A) (l : List ℕ) (k j : ℕ) → length l ≡ k → ((i : ℕ) → g (f (j + i)) ≡ at l i) → map g (tabulate f k j) ≡ l
+unfolding tabulate
+map-tabulate g f [] zero j e h = refl
+map-tabulate g f [] (suc k) j e h = absurd (omega arith)
+map-tabulate g f (x ∷ l) zero j e h = absurd (omega arith)
+map-tabulate g f (x ∷ l) (suc k) j e h =
+    ap₂ (λ (y : ℕ) (ys : List ℕ). y ∷ ys) (ap (λ (i : ℕ). g (f i)) (omega arith) ∙ h 0) (map-tabulate g f l k (suc j) (omega arith) (λ i. ap (λ (m : ℕ). g (f m)) (omega arith) ∙ h (suc i)))

@@ -1,25 +1,26 @@
 -- What the planner writes: demands 2 and 3 of document 01, over the rules. Assumes nothing.
-use mathlib.Core.Path.{_≡_, refl, sym, ap, _∙_}
+use mathlib.Core.Path.{_≡_, refl, sym, ap, subst, _∙_}
 use mathlib.Core.Logic.{_↔_}
 use mathlib.Core.List.{List}
 use mathlib.Core.Option.{Option, none, some}
 use Prim.Native.Nat.{ℕ, zero, suc, _+_, _≤_, _<_}
 use native.Mathlib.Omega.{arith}
 use lib.ListN.{length}
-use lib.Dec.{T, leb}
+use lib.Dec.{T, leb, eqb}
 use Rattle.rules.specs.Sizes.{maxWidth}
 use Rattle.rules.specs.Basics.{at, tabulate, largest}
+use Rattle.rules.specs.Numbers.{centimetres}
 use Rattle.rules.specs.Fields.{Answer, refused, got}
 use Rattle.rules.specs.Needs.{Gives, NeedsIn, Circle, circleFree}
 use Rattle.rules.specs.JobFile.{JobFile, nthJob}
 use Rattle.rules.specs.Program.{SatisfiesP, slots, Fits, Kept, keptb}
 use Rattle.rules.specs.Windows.{width}
 use Rattle.rules.specs.Preference.{best}
-use Rattle.rules.specs.Boards.{boards}
-use Rattle.rules.specs.Table.{Row, Table}
+use Rattle.rules.specs.Boards.{BoardRules, boards}
+use Rattle.rules.specs.Table.{Row, Table, starts, boardsOf, encode, decode}
 use Rattle.rules.specs.Answers.{tableOf, tabled, planTable}
-use Rattle.laws.specs.Tests.{T-leb}
-use Rattle.laws.specs.Lists.{nth-mem}
+use Rattle.laws.specs.Tests.{T-leb, T-eqb}
+use Rattle.laws.specs.Lists.{nth-mem, tabulate-at, length-tabulate, map-tabulate}
 use Rattle.laws.specs.Counting.{at-largest}
 use Rattle.laws.specs.Numbers.{centimetres-in}
 use Rattle.laws.specs.Fields.{ask-yes}
@@ -27,8 +28,9 @@ use Rattle.laws.specs.JobFile.{Readable}
 use Rattle.laws.specs.Program.{program-is}
 use Rattle.laws.specs.Circles.{circle-free}
 use Rattle.laws.specs.Best.{Shortest, best-found, best-none, best-some}
-use Rattle.laws.specs.BoardLaws.{boards-length, boards-width}
-use Rattle.laws.specs.Table.{RowOk, RowsOk, TableOk}
+use Rattle.laws.specs.BoardLaws.{boards-length, boards-low, boards-rules, boards-width}
+use Rattle.laws.specs.Table.{RowOk, RowsOk, TableOk, decode-encode}
+use Rattle.laws.specs.Check.{TableFor}
 
 rows-ok : (row : ℕ → Row) (k j : ℕ) → ((i : ℕ) → j ≤ i → i < j + k → RowOk (row i)) → RowsOk (tabulate row k j)
 unfolding tabulate
@@ -104,3 +106,40 @@ module _ (f : JobFile) (ok : Readable f) where
           name-ok = ok .names-in (nthJob (f .jobs) i) (nth-mem (f .jobs) i _ (omega arith));
         });
       }
+
+      -- ---- the table reads back, and passes the check
+
+      pub starts-are : starts (tableOf f t) ≡ t
+      unfolding tableOf
+      starts-are = map-tabulate (λ (r : Row). r .start) _ t (length (f .jobs)) 0 (kept .1 .len) (λ i. ap (at t) (omega arith))
+
+      pub boards-are : boardsOf (tableOf f t) ≡ boards (length (f .jobs)) (f .needs) t
+      unfolding tableOf
+      boards-are = map-tabulate (λ (r : Row). r .board) _ (boards (length (f .jobs)) (f .needs) t) (length (f .jobs)) 0 (boards-length (length (f .jobs)) (f .needs) needs-in t (kept .1 .len) (kept .0)) (λ i. ap (at (boards (length (f .jobs)) (f .needs) t)) (omega arith))
+
+      pub rows-count : length (tableOf f t .rows) ≡ length (f .jobs)
+      unfolding tableOf
+      rows-count = length-tabulate _ (length (f .jobs)) 0
+
+      -- what the planner writes is a table for its file
+      pub table-for : TableFor f (tableOf f t)
+      unfolding tableOf
+      table-for = record {
+        labels = record {
+          names = λ i h. ap (λ (r : Row). r .name) (tabulate-at _ (length (f .jobs)) 0 i _ h) ∙ ap (λ (j : ℕ). nthJob (f .jobs) j .name) (omega arith);
+          levels = λ i h. ap (λ (r : Row). r .level) (tabulate-at _ (length (f .jobs)) 0 i _ h) ∙ ap (λ (j : ℕ). centimetres (nthJob (f .jobs) j .level)) (omega arith);
+        };
+        satisfies = subst (SatisfiesP (length (f .jobs)) (f .needs) (slots t)) (sym starts-are) (short .satisfies);
+        sizes = record {
+          slots-are = ap slots (sym starts-are);
+          fits = short .fits;
+          boards-low = λ i h. rw boards-are (boards-low (length (f .jobs)) (f .needs) needs-in t (kept .1 .len) (kept .0) i (omega (arith, rows-count)));
+          boards-are = ap largest (sym boards-are);
+          boards-few = few-boards;
+        };
+        board-rules = subst (λ (s : List ℕ). BoardRules (length (f .jobs)) (f .needs) s (boardsOf (tableOf f t))) (sym starts-are)
+            (subst (BoardRules (length (f .jobs)) (f .needs) t) (sym boards-are) (boards-rules (length (f .jobs)) (f .needs) needs-in t (kept .1 .len) (kept .0)));
+      }
+
+      pub reads-back : decode (eqb (length (f .jobs))) (encode (tableOf f t)) ≡ got (tableOf f t)
+      reads-back = decode-encode (eqb (length (f .jobs))) (tableOf f t) table-ok (T-eqb (length (f .jobs)) (length (tableOf f t .rows)) .1 (sym rows-count))

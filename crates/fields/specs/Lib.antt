@@ -1,0 +1,2 @@
+-- The laws of fields. Assumes nothing.
+pub mod Fields

@@ -1,0 +1,41 @@
+-- The numbers that the forms for C give. Assumes nothing.
+use mathlib.Core.List.{List}
+use Prim.Native.Nat.{ℕ, zero, suc, _+_, _-_, _*_}
+use Rattle.rules.specs.Fields.{Answer, refused, got}
+use Rattle.table.specs.Rows.{rowStart}
+use Rattle.table.specs.declared.Verdict.{Verdict}
+use Rattle.table.specs.declared.Verdict.the-variants as verdict
+use Rattle.table.specs.declared.places.Found.{Found}
+use Rattle.table.specs.declared.places.Found.the-variants as found
+use Rattle.table.specs.declared.places.Place.{Place}
+use Rattle.table.specs.declared.places.Place.the-variants as place
+
+-- the number of each verdict: 0 passes
+unfoldable pub verdictNumber : Verdict → ℕ
+verdictNumber verdict.Passes = 0
+verdictNumber (verdict.Refused q) = q
+
+-- the number of each answer of the lookup
+unfoldable pub foundNumber : Found → ℕ
+foundNumber (found.Job j) = j
+foundNumber found.Idle = 0
+foundNumber (found.Refused q) = 65536 + q
+
+-- the number of each place of a name: offset times 65536, plus length
+unfoldable pub placeNumber : Place → ℕ
+placeNumber (place.Name j a e) = a * 65536 + (e - a)
+placeNumber place.Idle = 0
+placeNumber (place.Refused q) = 0
+
+-- ---- the same of the rules' answers
+
+-- the lookup's answer: 0 idle, a job number, or 65536 and the number of the refusal
+unfoldable pub lookupNumber : Answer ℕ → ℕ
+lookupNumber (refused q) = 65536 + q
+lookupNumber (got j) = j
+
+-- where the name of the job stands that the lookup answers, and its length
+unfoldable pub nameNumber : List ℕ → Answer ℕ → ℕ
+nameNumber bs (refused q) = 0
+nameNumber bs (got zero) = 0
+nameNumber bs (got (suc i)) = (rowStart bs i + 7) * 65536 + (rowStart bs (suc i) - (rowStart bs i + 7))

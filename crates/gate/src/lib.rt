@@ -1,0 +1,51 @@
+// The public library: the check, the lookup and the name, and the forms of them that C and Rust call.
+//
+// A form for C takes a slice as a pointer and a length, and gives its answer as one number.
+pub use table::Found;
+use table::Place;
+pub use table::Verdict;
+pub use table::check;
+pub use table::lookup;
+pub use table::name;
+ghost use mathlib.Core.Path.{_≡_};
+ghost use Rattle.rules.specs.Fields.{numberOf};
+ghost use Rattle.rules.specs.Answers.{check as Answers·check, lookup as Answers·lookup};
+ghost use Rattle.gate.specs.Numbers.{lookupNumber, nameNumber};
+
+// 0 where the table passes; else the number of the question that said no.
+#[no_mangle]
+pub extern "C" fn gate_check(file: &[u8], table: &[u8]) -> u32
+    ensures { λ r. ⌜ r ≡ numberOf (Answers·check (now (file .entry)) (now (table .entry))) ⌝ }
+{
+    let v = check(file, table);
+    match v {
+        Verdict::Passes => 0,
+        Verdict::Refused(number) => number as u32,
+    }
+}
+
+// 0 where the board is idle; the job number, from 1; or 65536 and the number of the question that said no.
+#[no_mangle]
+pub extern "C" fn gate_lookup(table: &[u8], slot: usize, board: usize) -> u32
+    ensures { λ r. ⌜ r ≡ lookupNumber (Answers·lookup (now (table .entry)) slot board) ⌝ }
+{
+    let f = lookup(table, slot, board);
+    match f {
+        Found::Job(job) => job as u32,
+        Found::Idle => 0,
+        Found::Refused(number) => 65536 + (number as u32),
+    }
+}
+
+// The offset of the name in the table times 65536, plus its length; 0 where it is empty.
+#[no_mangle]
+pub extern "C" fn gate_name_at(table: &[u8], slot: usize, board: usize) -> u32
+    ensures { λ r. ⌜ r ≡ nameNumber (now (table .entry)) (Answers·lookup (now (table .entry)) slot board) ⌝ }
+{
+    let p = table::find(table, slot, board);
+    match p {
+        Place::Name { job: _, start, end } => (start as u32) * 65536 + ((end - start) as u32),
+        Place::Idle => 0,
+        Place::Refused(_) => 0,
+    }
+}

@@ -1,0 +1,59 @@
+-- Questions 16 and 17 of the rows that were read are those of the table. Assumes nothing.
+use mathlib.Core.Path.{_≡_, refl, sym, ap, _∙_}
+use mathlib.Core.Bool.{Bool, true, false}
+use mathlib.Core.List.{List}
+use Prim.Native.Nat.{ℕ}
+use native.Mathlib.Omega.{arith}
+use lib.ListN.{length, take, length-map}
+use Rattle.rules.specs.Basics.{choose, at}
+use Rattle.rules.specs.Fields.{Answer, refused, ask}
+use Rattle.rules.specs.Table.{Table, starts, boardsOf, sized, apartb}
+use Rattle.laws.specs.Lists.{length-tabulate}
+use Rattle.table.specs.Rows.{rowNumber, tableOf, Holds}
+use Rattle.table.specs.Questions.{sizedIn}
+use Rattle.table.specs.Entries.{cellNumber}
+use Rattle.table.specs.declared.rows.Rows as code
+
+-- a table of n rows has n of them
+pub rows-length : (bs : List ℕ) (n : ℕ) → length (tableOf bs n .rows) ≡ n
+unfolding tableOf
+rows-length bs n = length-tabulate (rowNumber bs) n 0
+
+module _ (bs : List ℕ) (r : code.Rows) (held : Holds bs r) where
+  t : Table
+  t = tableOf bs (r .count)
+
+  sized-is : (L : ℕ) → sizedIn L (r .slots) (r .boards) (take (r .count) (r .start)) (take (r .count) (r .board)) ≡ sized L t
+  unfolding sized sizedIn t tableOf
+  sized-is L = rw (held .slots-is, held .boards-is, held .starts-are, held .boards-are) refl
+
+  -- row by row
+  count-is : length (take (r .count) (r .start)) ≡ r .count
+  count-is = ap length (held .starts-are) ∙ length-map (tableOf bs (r .count) .rows) (λ w. w .start) ∙ rows-length bs (r .count)
+
+  apart-is : apartb (length (take (r .count) (r .start))) (take (r .count) (r .start)) (take (r .count) (r .board)) ≡ apartb (r .count) (starts t) (boardsOf t)
+  unfolding t
+  apart-is = rw (count-is, held .starts-are, held .boards-are) refl
+
+  module _ {A : Type 0} (L q : ℕ) (x : Answer A) (q-is : q ≡ cellNumber L (r .slots) (r .boards) (take (r .count) (r .start)) (take (r .count) (r .board))) where
+    number : q ≡ choose {A = ℕ} (sized L t) (choose {A = ℕ} (apartb (r .count) (starts t) (boardsOf t)) 0 17) 16
+    unfolding cellNumber
+    number = q-is ∙ rw (sized-is L, apart-is) refl
+
+    pub cells-yes : q ≡ 0 → ask (sized L (tableOf bs (r .count))) 16 (ask (apartb (r .count) (starts (tableOf bs (r .count))) (boardsOf (tableOf bs (r .count)))) 17 x) ≡ x
+    unfolding choose ask t
+    cells-yes z = go (sized L t) (apartb (r .count) (starts t) (boardsOf t)) (sym number ∙ z)
+      where
+        go : (b c : Bool) → choose {A = ℕ} b (choose {A = ℕ} c 0 17) 16 ≡ 0 → ask b 16 (ask c 17 x) ≡ x
+        go true true e = refl
+        go true false e = absurd (omega arith)
+        go false c e = absurd (omega arith)
+
+    pub cells-no : (q ≡ 0 → ⊥) → ask (sized L (tableOf bs (r .count))) 16 (ask (apartb (r .count) (starts (tableOf bs (r .count))) (boardsOf (tableOf bs (r .count)))) 17 x) ≡ refused q
+    unfolding choose ask t
+    cells-no n = go (sized L t) (apartb (r .count) (starts t) (boardsOf t)) number
+      where
+        go : (b c : Bool) → q ≡ choose {A = ℕ} b (choose {A = ℕ} c 0 17) 16 → ask b 16 (ask c 17 x) ≡ refused q
+        go true true e = absurd (n e)
+        go true false e = ap refused (sym e)
+        go false c e = ap refused (sym e)

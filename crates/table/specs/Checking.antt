@@ -1,0 +1,193 @@
+-- The ways out of the check, by what it has tested. Assumes nothing.
+use mathlib.Core.Path.{_≡_, refl, sym, ap, ap₂, subst, _∙_}
+use mathlib.Core.Bool.{Bool, true, false}
+use mathlib.Core.List.{List, [], _∷_, List·Memᴰ, List·Memᴰ·head, List·Memᴰ·tail}
+use Prim.Native.Nat.{ℕ, zero, suc, _+_, _-_, _≤_, _<_}
+use native.Mathlib.Omega.{arith}
+use lib.ListN.{length, take, drop, getD, length-drop, length-map}
+use lib.Dec.{T, leb, eqb}
+use Rattle.rules.specs.Basics.{at, all, range}
+use Rattle.rules.specs.Numbers.{Bytes}
+use Rattle.rules.specs.Fields.{Answer, refused, got, ask, after, numberOf, value, whole}
+use Rattle.rules.specs.Needs.{Need, NeedsIn, circleFree}
+use Rattle.rules.specs.JobFile.{Job, JobFile, nthJob, nameOk, jobOf, readFile}
+use Rattle.rules.specs.Table.{Row, Table, nthRow, starts, boardsOf, rowOf, decode, labelled, sized, apartb, needsKept}
+use Rattle.rules.specs.Answers.{check}
+use Rattle.laws.specs.Tests.{tests, T-and, T-leb, T-all, bool-ext}
+use Rattle.laws.specs.Lists.{tabulate-at}
+use Rattle.laws.specs.Counting.{range-below}
+use Rattle.laws.specs.Fields.{ask-yes, ask-no}
+use Rattle.laws.specs.JobFile.{Readable, readable}
+use Rattle.laws.specs.Check.{q15, q16, q17, q18}
+use Rattle.laws.specs.Refusals.{file-number, not-refused}
+use Rattle.jobset.specs.Arrays.{GiversAre}
+use Rattle.jobfile.specs.Reading.{Held, Reads}
+use Rattle.windows.specs.Levels.{levelsOf}
+use Rattle.windows.specs.LevelLaws.{levels-ok}
+use Rattle.table.specs.Rows.{isRow, rowStart, rowNumber, tableOf, Few, Holds, Decodes}
+use Rattle.table.specs.RowWays.{IsRow, row-is}
+use Rattle.table.specs.Questions.{labelledBy, Placed, labelledIn, setsKept}
+use Rattle.table.specs.QuestionLaws.{kept-is}
+use Rattle.table.specs.Cells.{rows-length, cells-yes, cells-no}
+use Rattle.table.specs.Entries.{cellNumber, verdictOf}
+use Rattle.table.specs.declared.Verdict.the-variants as verdict
+use Rattle.table.specs.declared.rows.Rows as table-rows
+use Rattle.jobfile.specs.declared.JobFile as code
+use Rattle.windows.specs.declared.JobLevels.{JobLevels}
+
+-- a list whose entries are bytes
+bytes-all : (l : List ℕ) → ((i : ℕ) → at l i < 256) → Bytes l
+bytes-all [] h = tt
+bytes-all (x ∷ l) h = (h 0, bytes-all l (λ i. h (suc i)))
+
+nth-mem : {A : Type 0} (l : List A) (d : A) (i : ℕ) → i < length l → List·Memᴰ (getD l i d) l
+nth-mem [] d i h = absurd (omega arith)
+nth-mem (x ∷ l) d zero h = List·Memᴰ·head refl
+nth-mem (x ∷ l) d (suc i) h = List·Memᴰ·tail (nth-mem l d i (omega arith))
+
+all-same : (n : ℕ) (p q : ℕ → Bool) → ((i : ℕ) → i < n → p i ≡ q i) → all p (range n 0) ≡ all q (range n 0)
+all-same n p q h =
+    bool-ext (all p (range n 0)) (all q (range n 0))
+    (λ t. T-all q (range n 0) .1 (λ i m. subst T (h i (range-below n i .0 m)) (T-all p (range n 0) .0 t i m)))
+    (λ t. T-all p (range n 0) .1 (λ i m. subst T (sym (h i (range-below n i .0 m))) (T-all q (range n 0) .0 t i m)))
+
+module _ (file table : List ℕ) where
+  refused-by : (q : ℕ) → check file table ≡ refused q → verdict.Refused q ≡ verdictOf (check file table)
+  unfolding verdictOf
+  refused-by q e = rw e refl
+
+  module _ (F : code.JobFile) (reads : Reads file F) where
+    -- ---- questions 2 to 10
+
+    pub file-refused : (F .number ≡ 0 → ⊥) → verdict.Refused (F .number) ≡ verdictOf (check file table)
+    unfolding check after numberOf
+    file-refused n = refused-by (F .number) (rw (go (readFile file) refl) refl)
+      where
+        go : (x : Answer JobFile) → readFile file ≡ x → x ≡ refused (F .number)
+        go (refused q) e = ap refused (sym (reads .number-is ∙ ap numberOf e))
+        go (got f) e = absurd (n (reads .number-is ∙ ap numberOf e))
+
+    module _ (bytes : (i : ℕ) → at file i < 256) (ok : F .number ≡ 0) where
+      file-got : (f : JobFile) × (readFile file ≡ got f)
+      file-got = not-refused (readFile file) (file-number file) (sym (reads .number-is) ∙ ok)
+
+      f : JobFile
+      f = file-got .0
+
+      file-is : Readable f
+      unfolding f
+      file-is = readable file (bytes-all file bytes) (file-got .0) (file-got .1)
+
+      held : Held file f (record { fields = f .fields; limit = F .limit; jobs = F .jobs; offsets = F .offsets; givers = F .givers; takers = F .takers })
+      unfolding f
+      held = reads .held (file-got .0) (file-got .1)
+
+      pub jobs-few : F .jobs ≤ 64
+      jobs-few = held .few
+
+      needs-in : NeedsIn (F .jobs) (f .needs)
+      needs-in g k m = let w = file-is .needs-in g k m in (omega (arith, w .0, held .jobs-is), omega (arith, w .1, held .jobs-is))
+
+      -- ---- question 11
+
+      module _ (levels : JobLevels) (levels-are : (needs : List Need) → NeedsIn (F .jobs) needs → GiversAre (F .givers) needs → levels ≡ levelsOf (F .jobs) needs) where
+        free : circleFree (length (f .jobs)) (f .needs) ≡ levels .ok
+        free = rw (← (held .jobs-is)) (sym (levels-ok (F .jobs) (f .needs)) ∙ sym (ap (λ (l : JobLevels). l .ok) (levels-are (f .needs) needs-in (held .givers-are))))
+
+        asked : check file table ≡ ask (levels .ok) 11 (after (decode (eqb (length (f .jobs))) table) (q15 f))
+        unfolding check after f
+        asked = rw (file-got .1) (rw free refl)
+
+        pub circle : levels .ok ≡ false → verdict.Refused 11 ≡ verdictOf (check file table)
+        unfolding ask
+        circle e = refused-by 11 (asked ∙ rw e refl)
+
+        -- ---- question 14
+
+        module _ (no-circle : levels .ok ≡ true) (r : table-rows.Rows) (rows : Decodes table r) where
+          decoding : check file table ≡ after (decode (eqb (length (f .jobs))) table) (q15 f)
+          unfolding ask
+          decoding = asked ∙ rw no-circle refl
+
+          pub not-read : r .ok ≡ false → verdict.Refused 14 ≡ verdictOf (check file table)
+          unfolding after
+          not-read e = refused-by 14 (decoding ∙ rw (rows .not-read e (eqb (length (f .jobs))) (λ n t. let p : length (f .jobs) ≡ n = simp tests at t in omega (arith, file-is .jobs-in))) refl)
+
+          module _ (is-read : r .ok ≡ true) where
+            row-held : Holds table r
+            row-held = rows .held is-read
+
+            pub other-count : (r .count ≡ F .jobs → ⊥) → verdict.Refused 14 ≡ verdictOf (check file table)
+            unfolding after
+            other-count n = refused-by 14 (decoding ∙ rw (row-held .decoded (eqb (length (f .jobs))), ask-no (eqb (length (f .jobs)) (r .count)) 14 (got (tableOf table (r .count))) (λ t. let p : length (f .jobs) ≡ r .count = simp tests at t in n (sym p ∙ sym (held .jobs-is)))) refl)
+
+            -- ---- question 15
+
+            module _ (count-is : r .count ≡ F .jobs) where
+              n-is : length (f .jobs) ≡ r .count
+              n-is = sym (count-is ∙ held .jobs-is)
+
+              questions : check file table ≡ q15 f (tableOf table (r .count))
+              unfolding after
+              questions = decoding ∙ rw (row-held .decoded (eqb (length (f .jobs))), ask-yes (eqb (length (f .jobs)) (r .count)) 14 (got (tableOf table (r .count))) (simp tests n-is)) refl
+
+              -- the arrays are long enough
+              pub rows-fit : (F .jobs ≤ length (r .start)) × (F .jobs ≤ length (r .board))
+              rows-fit = omega (arith, row-held .sizes, row-held .count-in, count-is)
+
+              -- where the fields of job and row i begin
+              pub placed : (i : ℕ) → i < F .jobs → Placed file (at (F .offsets) i) table (at (r .offset) i)
+              placed i h = rw (row-held .offsets-are i (omega arith)) record {
+                job-whole = held .offsets-whole i h;
+                job-long = long (value file (at (F .offsets) i)) (rw (held .offsets-are i h) (file-is .names-in (nthJob (f .jobs) i) (nth-mem (f .jobs) _ i (omega (arith, held .jobs-is)))));
+                row-whole = row .is-whole;
+                row-long = omega (arith, row .sizes);
+              }
+                where
+                  row : IsRow table (rowStart table i)
+                  row = row-is table (rowStart table i) .0 (row-held .rows-are i (omega arith))
+
+                  long : (v : List ℕ) → T (nameOk (jobOf v .name)) → 2 ≤ length v
+                  long v t = unfold nameOk jobOf in let w = T-and (leb 1 (length (drop 2 v))) _ .0 t in omega (arith, T-leb 1 (length (drop 2 v)) .0 (w .0), length-drop 2 v)
+
+              row-same : (i : ℕ) → i < F .jobs → rowOf (value table (at (r .offset) i)) ≡ nthRow (tableOf table (r .count) .rows) i
+              unfolding tableOf rowNumber
+              row-same i h = rw (row-held .offsets-are i (omega arith)) (sym (tabulate-at (rowNumber table) (r .count) 0 i _ (omega arith) ∙ let z : 0 + i ≡ i = omega arith in ap (rowNumber table) z))
+
+              labels : labelledIn file (F .offsets) table (r .offset) (F .jobs) ≡ labelled (length (f .jobs)) (f .jobs) (tableOf table (r .count) .rows)
+              unfolding labelledIn labelled labelledBy
+              labels = rw (← (held .jobs-is)) (all-same (F .jobs) _ _ (λ i h. rw (held .offsets-are i h, row-same i h) refl))
+
+              pub wrong-label : labelledIn file (F .offsets) table (r .offset) (F .jobs) ≡ false → verdict.Refused 15 ≡ verdictOf (check file table)
+              unfolding ask
+              wrong-label e = refused-by 15 (questions ∙ rw (sym labels ∙ e) refl)
+
+              -- ---- questions 16 and 17
+
+              module _ (right : labelledIn file (F .offsets) table (r .offset) (F .jobs) ≡ true)
+                  (q : ℕ) (q-is : q ≡ cellNumber (F .limit) (r .slots) (r .boards) (take (r .count) (r .start)) (take (r .count) (r .board))) where
+                sixteen : check file table ≡ q16 f (tableOf table (r .count))
+                unfolding ask
+                sixteen = questions ∙ rw (sym labels ∙ right) refl
+
+                pub bad-cells : (q ≡ 0 → ⊥) → verdict.Refused q ≡ verdictOf (check file table)
+                bad-cells n = refused-by q (sixteen ∙ rw (n-is, ← (held .limit-is)) (cells-no table r row-held (F .limit) q (q18 f (tableOf table (r .count))) q-is n))
+
+                -- ---- question 18
+
+                module _ (z : q ≡ 0) where
+                  eighteen : check file table ≡ q18 f (tableOf table (r .count))
+                  eighteen = sixteen ∙ rw (n-is, ← (held .limit-is)) (cells-yes table r row-held (F .limit) q (q18 f (tableOf table (r .count))) q-is z)
+
+                  kept : setsKept (F .givers) (take (F .jobs) (r .start)) (take (F .jobs) (r .board)) ≡ needsKept (f .needs) (starts (tableOf table (r .count))) (boardsOf (tableOf table (r .count)))
+                  kept =
+                      ap₂ (setsKept (F .givers)) (ap (λ (n : ℕ). take n (r .start)) (sym count-is) ∙ row-held .starts-are) (ap (λ (n : ℕ). take n (r .board)) (sym count-is) ∙ row-held .boards-are)
+                      ∙ kept-is (F .jobs) (f .needs) (F .givers) (starts (tableOf table (r .count))) (boardsOf (tableOf table (r .count))) needs-in (held .givers-are) (length-map (tableOf table (r .count) .rows) (λ w. w .start) ∙ rows-length table (r .count) ∙ count-is) (held .few)
+
+                  pub need-broken : setsKept (F .givers) (take (F .jobs) (r .start)) (take (F .jobs) (r .board)) ≡ false → verdict.Refused 18 ≡ verdictOf (check file table)
+                  unfolding ask
+                  need-broken e = refused-by 18 (eighteen ∙ rw (sym kept ∙ e) refl)
+
+                  pub passes : setsKept (F .givers) (take (F .jobs) (r .start)) (take (F .jobs) (r .board)) ≡ true → verdict.Passes ≡ verdictOf (check file table)
+                  unfolding ask verdictOf
+                  passes e = rw (eighteen, sym kept ∙ e) refl

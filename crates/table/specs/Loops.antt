@@ -1,0 +1,120 @@
+-- Tests over a range and over a list, one entry after the other: what is still to come is the whole, as long as nothing decides. Assumes nothing.
+use mathlib.Core.Path.{_≡_, refl, sym, ap}
+use mathlib.Core.Bool.{Bool, true, false}
+use mathlib.Core.List.{List, [], _∷_}
+use Prim.Native.Nat.{ℕ, suc, _+_, _-_, _≤_, _<_, max}
+use native.Mathlib.Omega.{arith}
+use native.Mathlib.Numerals.{add-one}
+use borrow.Author.Tests.{eq-eqb, ne-eqb, le-leb, lt-leb}
+use lib.ListN.{length, drop, drop-of-length-le}
+use lib.Seq.{drop-cons}
+use lib.Dec.{leb}
+use Rattle.rules.specs.Basics.{at, all, any, range, largest}
+use Rattle.rules.specs.Table.{sameName}
+use Rattle.laws.specs.Tests.{T-false}
+use Rattle.laws.specs.Check.{same-name}
+
+-- ---- the numbers from i to before n
+
+unfoldable pub rangeFrom : ℕ → ℕ → List ℕ
+rangeFrom n i = range (n - i) i
+
+range-start : (n : ℕ) → rangeFrom n 0 ≡ range n 0
+unfolding rangeFrom
+range-start n = let e : n - 0 ≡ n = omega arith in rw e refl
+
+range-next : (n i : ℕ) → i < n → rangeFrom n i ≡ i ∷ rangeFrom n (i + 1)
+unfolding rangeFrom range
+range-next n i h = let e : n - i ≡ suc (n - (i + 1)) = omega arith in rw (e, add-one) refl
+
+range-end : (n i : ℕ) → n ≤ i → rangeFrom n i ≡ []
+unfolding rangeFrom range
+range-end n i h = let e : n - i ≡ 0 = omega arith in rw e refl
+
+-- p holds of the numbers from i to before n
+unfoldable pub allFrom : (ℕ → Bool) → ℕ → ℕ → Bool
+allFrom p n i = all p (rangeFrom n i)
+
+module _ (p : ℕ → Bool) (n : ℕ) where
+  pub all-start : allFrom p n 0 ≡ all p (range n 0)
+  unfolding allFrom
+  all-start = ap (all p) (range-start n)
+
+  pub all-no : (i : ℕ) → i < n → p i ≡ false → allFrom p n i ≡ false
+  unfolding allFrom all
+  all-no i h e = rw (range-next n i h, e) refl
+
+  pub all-yes : (i : ℕ) → i < n → p i ≡ true → allFrom p n i ≡ allFrom p n (i + 1)
+  unfolding allFrom all
+  all-yes i h e = rw (range-next n i h, e) refl
+
+  pub all-end : (i : ℕ) → n ≤ i → allFrom p n i ≡ true
+  unfolding allFrom all
+  all-end i h = rw (range-end n i h) refl
+
+-- p holds of one of the numbers from i to before n
+unfoldable pub anyFrom : (ℕ → Bool) → ℕ → ℕ → Bool
+anyFrom p n i = any p (rangeFrom n i)
+
+module _ (p : ℕ → Bool) (n : ℕ) where
+  pub any-start : anyFrom p n 0 ≡ any p (range n 0)
+  unfolding anyFrom
+  any-start = ap (any p) (range-start n)
+
+  pub any-yes : (i : ℕ) → i < n → p i ≡ true → anyFrom p n i ≡ true
+  unfolding anyFrom any
+  any-yes i h e = rw (range-next n i h, e) refl
+
+  pub any-no : (i : ℕ) → i < n → p i ≡ false → anyFrom p n i ≡ anyFrom p n (i + 1)
+  unfolding anyFrom any
+  any-no i h e = rw (range-next n i h, e) refl
+
+  pub any-end : (i : ℕ) → n ≤ i → anyFrom p n i ≡ false
+  unfolding anyFrom any
+  any-end i h = rw (range-end n i h) refl
+
+-- ---- the entries of a list from entry i on
+
+drop-next : (l : List ℕ) (i : ℕ) → i < length l → drop i l ≡ at l i ∷ drop (i + 1) l
+drop-next l i h = rw (add-one, drop-cons l i 0 h) refl
+
+-- whether each is at least 1
+module _ (l : List ℕ) (i : ℕ) where
+  pub positive-no : i < length l → at l i ≡ 0 → all (leb 1) (drop i l) ≡ false
+  unfolding all
+  positive-no h e = rw (drop-next l i h, lt-leb 1 (at l i) (omega arith)) refl
+
+  pub positive-yes : i < length l → (at l i ≡ 0 → ⊥) → all (leb 1) (drop i l) ≡ all (leb 1) (drop (i + 1) l)
+  unfolding all
+  positive-yes h n = rw (drop-next l i h, le-leb 1 (at l i) (omega arith)) refl
+
+  pub positive-end : length l ≤ i → all (leb 1) (drop i l) ≡ true
+  unfolding all
+  positive-end h = rw (drop-of-length-le l h) refl
+
+-- the largest so far, and those that follow
+module _ (l : List ℕ) (m i : ℕ) where
+  pub largest-next : i < length l → max (max m (at l i)) (largest (drop (i + 1) l)) ≡ max m (largest (drop i l))
+  unfolding largest
+  largest-next h = rw (drop-next l i h) (omega arith)
+
+  pub largest-end : length l ≤ i → max m (largest (drop i l)) ≡ m
+  unfolding largest
+  largest-end h = rw (drop-of-length-le l h) (omega arith)
+
+-- two names from byte i on
+pub names-long : (a b : List ℕ) → (length a ≡ length b → ⊥) → false ≡ sameName a b
+names-long a b n = sym (T-false (sameName a b) (λ t. n (ap length (same-name a b .0 t))))
+
+module _ (a b : List ℕ) (i : ℕ) where
+  pub names-no : i < length a → i < length b → (at a i ≡ at b i → ⊥) → sameName (drop i a) (drop i b) ≡ false
+  unfolding sameName
+  names-no h l n = rw (drop-next a i h, drop-next b i l, ne-eqb (at a i) (at b i) n) refl
+
+  pub names-yes : i < length a → i < length b → at a i ≡ at b i → sameName (drop i a) (drop i b) ≡ sameName (drop (i + 1) a) (drop (i + 1) b)
+  unfolding sameName
+  names-yes h l e = rw (drop-next a i h, drop-next b i l, eq-eqb (at a i) (at b i) e) refl
+
+  pub names-end : length a ≤ i → length b ≤ i → sameName (drop i a) (drop i b) ≡ true
+  unfolding sameName
+  names-end h l = rw (drop-of-length-le a h, drop-of-length-le b l) refl

@@ -1,0 +1,136 @@
+// The lookup: what a board does in a slot, and the name of the job.
+use crate::questions::apart;
+use crate::questions::sized;
+use crate::rows::Rows;
+use crate::rows::read_rows;
+use fields::index;
+use fields::value_at;
+use fields::wide;
+ghost use mathlib.Core.Path.{_≡_};
+ghost use mathlib.Core.Bool.{_&&_};
+ghost use Prim.Native.Nat.{_≤_};
+ghost use lib.ListN.{length, take};
+ghost use lib.Dec.{eqb};
+ghost use Rattle.rules.specs.Answers.{lookup as Answers·lookup, name as Answers·name};
+ghost use Rattle.table.specs.Entries.{cellNumber, jobIn, foundOf, placeOf};
+
+// A job number, from 1; or idle; or the number of the question that said no.
+pub enum Found {
+    Job(usize),
+    Idle,
+    Refused(u8),
+}
+
+// The same, with where the job's name stands in the table, from start to before end.
+pub enum Place {
+    Name {
+        job: usize,
+        start: usize,
+        end: usize,
+    },
+    Idle,
+    Refused(u8),
+}
+
+// Questions 16 and 17 of the rows that were read: the number of the one that says no, or 0.
+pub fn cells(t: Rows, limit: usize) -> u8
+    requires { ⌜ (t .count ≤ length (t .start)) × (t .count ≤ length (t .board)) ⌝ }
+    ensures { λ r. ⌜ r ≡ cellNumber limit (t .slots) (t .boards) (take (t .count) (t .start)) (take (t .count) (t .board)) ⌝ }
+{
+    let n = t.count;
+    let start = t.start;
+    let board = t.board;
+    if !sized(limit, t.slots, t.boards, &start[..n], &board[..n]) {
+        return 16;
+    }
+    if !apart(&start[..n], &board[..n]) {
+        return 17;
+    }
+    0
+}
+
+// Is this the start and that the board?
+fn runs_at(start: u8, board: u8, s: usize, b: usize) -> bool
+    ensures { λ r. ⌜ r ≡ (eqb start s && eqb board b) ⌝ }
+{
+    if wide(start) != s {
+        return false;
+    }
+    wide(board) == b
+}
+
+// The number, from 1, of the first row with slot s and board b; 0 where there is none.
+fn job_at(start: &[u8], board: &[u8], s: usize, b: usize) -> usize
+    requires { ⌜ length (now board) ≡ length (now start) ⌝ }
+    ensures { λ r. ⌜ r ≡ jobIn 1 (now (start .entry)) (now (board .entry)) s b ⌝ }
+{
+    let mut i = 0;
+    while i < start.len() {
+        let number = i + 1;
+        if runs_at(start[i], board[i], s, b) {
+            return number;
+        }
+        i = number;
+    }
+    0
+}
+
+// The job on a board in a slot, and where its name stands.
+pub fn find(table: &[u8], slot: usize, board: usize) -> Place
+    ensures { λ r. ⌜ r ≡ placeOf (now (table .entry)) (Answers·lookup (now (table .entry)) slot board) ⌝ }
+{
+    let t = read_rows(table);
+    let n = t.count;
+    if !t.ok {
+        return Place::Refused(14);
+    }
+    if n < 1 {
+        return Place::Refused(14);
+    }
+    let number = cells(t, 64);
+    if number != 0 {
+        return Place::Refused(number);
+    }
+    let starts = t.start;
+    let boards = t.board;
+    let job = job_at(&starts[..n], &boards[..n], slot, board);
+    if job == 0 {
+        return Place::Idle;
+    }
+    let offsets = t.offset;
+    let row = index(offsets[job - 1]);
+    let v = value_at(table, row);
+    Place::Name {
+        job,
+        start: row + 7,
+        end: row + 3 + v.len(),
+    }
+}
+
+// What a board does in a slot.
+pub fn lookup(table: &[u8], slot: usize, board: usize) -> Found
+    ensures { λ r. ⌜ r ≡ foundOf (Answers·lookup (now (table .entry)) slot board) ⌝ }
+{
+    let p = find(table, slot, board);
+    match p {
+        Place::Name {
+            job,
+            start: _,
+            end: _,
+        } => Found::Job(job),
+        Place::Idle => Found::Idle,
+        Place::Refused(number) => Found::Refused(number),
+    }
+}
+
+// The name of the job on a board in a slot, as the part of the table that holds it; empty where the lookup is idle or refused.
+pub fn name(table: &[u8], slot: usize, board: usize) -> &[u8]
+    ensures { λ r. ⌜ now r ≡ Answers·name (now (table .entry)) slot board ⌝ }
+{
+    let p = find(table, slot, board);
+    match p {
+        Place::Name { job: _, start, end } => &table[start..end],
+        Place::Idle => &table[0..0],
+        Place::Refused(_) => &table[0..0],
+    }
+}

@@ -1,0 +1,263 @@
+//! The generated cases. Each index of a seed gives one file, always the same one, and what is tried with it.
+
+use crate::generate::drafts::Draft;
+use crate::generate::random::Random;
+use crate::generate::{damage, hard, limits, shapes, tables};
+use crate::reference::lists;
+use crate::reference::needs::Graph;
+use crate::reference::reading::{read, JobFile, LONGEST_FILE};
+use crate::reference::search;
+use crate::reference::table::Table;
+use crate::report::shown;
+use crate::tester::Tester;
+
+/// Small files are tried against the search through all lists where there are at most this many.
+const MOST_LISTS: usize = 50_000;
+/// At one index in so many a file is cut at every offset and changed at every byte, and hard files are looked for.
+const RARE: u64 = 1_000;
+
+pub fn run(tester: &mut Tester, seed: u64, index: u64) {
+    tester.random = Random::new(seed, index);
+    tester.label = format!("seed {seed} index {index}");
+    match index % 20 {
+        0..=8 => sound(tester),
+        9..=11 => small(tester),
+        12 => without_windows(tester),
+        13..=15 => damaged_fields(tester),
+        16 | 17 => damaged_bytes(tester),
+        18 => lengths(tester),
+        _ => many_tables(tester),
+    }
+    if index % RARE == 0 {
+        every_offset(tester);
+        hard(tester);
+    }
+}
+
+/// Sound files of every shape up to 64 jobs, with tables for them.
+fn sound(tester: &mut Tester) {
+    let draft = Draft::sound(&mut tester.random, 64);
+    let file = draft.mixed_bytes(&mut tester.random);
+    let planned = tester.plan("plan: sound shapes", &file);
+    if tester.random.percent(10) {
+        tester.plan_in_any("plan: buffers of any length", &file);
+    }
+    try_tables(tester, &file, &planned);
+}
+
+/// Files that get harder and harder to search, with limits at and near the fewest slots.
+fn hard(tester: &mut Tester) {
+    let jobs = tester.random.between(8, 64);
+    for shape in hard::shapes(&mut tester.random, jobs, 100) {
+        let widest = limits::widest(&Graph::new(jobs, &shape.needs));
+        let mut draft = Draft::of_shape(&mut tester.random, &shape, widest.clamp(1, 64) as u8);
+        let planned = tester.plan("plan: hard files", &draft.bytes());
+        let slots = planned.map_or(draft.limit, |table| table[4]);
+        for limit in [slots, slots.saturating_sub(1).max(1)] {
+            draft.limit = limit;
+            let _ = tester.plan("plan: hard files", &draft.bytes());
+        }
+    }
+}
+
+/// Files of up to 6 jobs, whose answer the search through all start lists must give too.
+fn small(tester: &mut Tester) {
+    let mut draft = Draft::sound(&mut tester.random, 6);
+    let jobs = draft.jobs.len() as u32;
+    let most = (1..=64).take_while(|limit| limit_fits(*limit, jobs)).last().unwrap_or(1);
+    draft.limit = draft.limit.min(most);
+    let file = draft.mixed_bytes(&mut tester.random);
+    let planned = tester.plan("plan: small files", &file);
+    if planned != Err(12) {
+        let starts = planned.ok().and_then(|table| starts_of(&table));
+        all_lists(tester, &file, starts);
+    }
+}
+
+/// Files of 7 and 8 jobs, whose answer the search without windows must give too.
+fn without_windows(tester: &mut Tester) {
+    let jobs = tester.random.between(7, 8);
+    let shape = shapes::any(&mut tester.random, jobs);
+    let limit = limits::near_an_edge(&mut tester.random, &shape).min(jobs as u8 + 1);
+    let file = Draft::of_shape(&mut tester.random, &shape, limit).bytes();
+    let planned = tester.plan("plan: small files", &file);
+    let found = search::best_without_windows(&Graph::new(jobs, &shape.needs), limit as i32);
+    let starts = planned.ok().and_then(|table| starts_of(&table));
+    let verdict = if starts == found { Ok(()) } else { Err(format!("planned {starts:?}, without windows {found:?}")) };
+    let label = &tester.label;
+    tester.report.case("search without windows", verdict, || format!("{label}, file {}", shown(&file)));
+}
+
+fn limit_fits(limit: u8, jobs: u32) -> bool {
+    (limit as usize).checked_pow(jobs).is_some_and(|lists| lists <= MOST_LISTS)
+}
+
+fn starts_of(table: &[u8]) -> Option<Vec<usize>> {
+    let table = Table::read(table)?;
+    Some(table.rows.iter().map(|row| row.start as usize).collect())
+}
+
+/// The best of all start lists, one by one, is the one planned.
+fn all_lists(tester: &mut Tester, file: &[u8], planned: Option<Vec<usize>>) {
+    let Ok(read) = read(file) else { return };
+    let graph = Graph::new(read.jobs.len(), &read.needs);
+    let best = lists::best_of_all(&graph, read.limit as usize);
+    let verdict = if planned == best { Ok(()) } else { Err(format!("planned {planned:?}, best of all {best:?}")) };
+    let label = &tester.label;
+    tester.report.case("all start lists", verdict, || format!("{label}, file {}", shown(file)));
+}
+
+/// Files with a wrong field or two.
+fn damaged_fields(tester: &mut Tester) {
+    let draft = Draft::sound(&mut tester.random, 20);
+    let file = damage::fields(&mut tester.random, &draft);
+    let planned = tester.plan("plan: wrong fields", &file);
+    try_tables(tester, &file, &planned);
+    let _ = tester.check("check: wrong fields in the file", &file, &some_table(&draft));
+}
+
+/// Files with a few bytes changed, lost or added.
+fn damaged_bytes(tester: &mut Tester) {
+    let draft = Draft::sound(&mut tester.random, 20);
+    let mut file = draft.mixed_bytes(&mut tester.random);
+    damage::bytes(&mut tester.random, &mut file);
+    let planned = tester.plan("plan: damaged bytes", &file);
+    if tester.random.percent(10) {
+        tester.plan_in_any("plan: buffers of any length", &file);
+    }
+    let _ = tester.check("check: damaged bytes in the file", &file, planned.as_deref().unwrap_or(&some_table(&draft)));
+}
+
+/// A table for the draft that may be right or wrong.
+fn some_table(draft: &Draft) -> Vec<u8> {
+    crate::reference::entries::plan(&draft.bytes(), usize::MAX, usize::MAX).unwrap_or_default()
+}
+
+/// Files around the longest that is read, and bytes that are no file at all.
+fn lengths(tester: &mut Tester) {
+    let draft = Draft::sound(&mut tester.random, 64);
+    let sound = draft.mixed_bytes(&mut tester.random);
+    let length = tester.random.pick(&[LONGEST_FILE - 1, LONGEST_FILE, LONGEST_FILE + 1, 20_000, 70_000, 300]);
+    let mut file = match tester.random.below(4) {
+        0 | 1 => damage::filled(&mut tester.random, &sound, length),
+        2 => sound[..tester.random.below(sound.len())].to_vec(),
+        _ => tester.random.bytes(length % 1000),
+    };
+    if tester.random.percent(20) {
+        file.truncate(LONGEST_FILE);
+    }
+    let planned = tester.plan("plan: lengths", &file);
+    let _ = tester.check("check: lengths", &file, planned.as_deref().unwrap_or(&some_table(&draft)));
+}
+
+/// Tables of all kinds for one file: the planned one, valid ones, broken ones.
+fn try_tables(tester: &mut Tester, file: &[u8], planned: &Result<Vec<u8>, u8>) {
+    if let Ok(table) = planned {
+        let checked = tester.check("check: planned tables", file, table);
+        tester.report.case("planned tables pass", checked.map_err(|number| number.to_string()), || shown(file));
+        tester.lookups("lookup: planned tables", table);
+    }
+    if let Ok(read) = read(file) {
+        other_tables(tester, file, &read);
+    }
+}
+
+/// A valid table and some that are wrong.
+fn other_tables(tester: &mut Tester, file: &[u8], read: &JobFile) {
+    let Some(table) = tables::valid(&mut tester.random, read) else { return };
+    let _ = tester.check("check: other valid tables", file, &table.bytes());
+    let broken = tables::broken(&mut tester.random, read, &table);
+    let _ = tester.check("check: a rule broken", file, &broken);
+    let damaged = tables::damaged(&mut tester.random, &table);
+    let _ = tester.check("check: damaged tables", file, &damaged);
+    let chosen = tester.random.pick(&[&broken, &damaged]);
+    tester.lookups("lookup: broken and damaged tables", chosen);
+}
+
+/// Any limit, so files that are too wide to plan too, and many tables.
+fn many_tables(tester: &mut Tester) {
+    let mut draft = Draft::sound(&mut tester.random, 64);
+    if tester.random.percent(50) {
+        draft.limit = tester.random.between(1, 64) as u8;
+    }
+    let file = draft.bytes();
+    let planned = tester.plan("plan: any limit", &file);
+    try_tables(tester, &file, &planned);
+    let Ok(read) = read(&file) else { return };
+    for _ in 0..4 {
+        other_tables(tester, &file, &read);
+    }
+    if let Some(table) = tables::valid(&mut tester.random, &read) {
+        tester.all_lookups("lookup: every slot and board", &table.bytes());
+    }
+}
+
+/// A file and its table cut at every offset, and each byte of them changed.
+fn every_offset(tester: &mut Tester) {
+    let draft = Draft::sound(&mut tester.random, 30);
+    let file = draft.mixed_bytes(&mut tester.random);
+    for end in 0..file.len() {
+        let _ = tester.plan("plan: cut at every offset", &file[..end]);
+        let mut changed = file.clone();
+        damage_at(&mut tester.random, &mut changed, end);
+        let _ = tester.plan("plan: every byte changed", &changed);
+    }
+    let table = some_table(&draft);
+    for end in 0..table.len() {
+        let _ = tester.check("check: table cut at every offset", &file, &table[..end]);
+        let _ = tester.lookup("lookup: table cut at every offset", &table[..end], 0, 1);
+        let mut changed = table.clone();
+        damage_at(&mut tester.random, &mut changed, end);
+        let _ = tester.check("check: every byte of the table changed", &file, &changed);
+        let _ = tester.lookup("lookup: every byte of the table changed", &changed, 0, 1);
+    }
+}
+
+fn damage_at(random: &mut Random, bytes: &mut [u8], at: usize) {
+    bytes[at] = match random.below(3) {
+        0 => bytes[at].wrapping_add(random.pick(&[1, 255])),
+        1 => bytes[at] ^ 1 << random.below(8),
+        _ => random.byte(),
+    };
+}
+
+/// All needs between up to so many jobs, with every limit up to one more than the jobs: against all start lists.
+pub fn all_small(tester: &mut Tester, most: u8) {
+    for jobs in 1..=most {
+        let pairs: Vec<(u8, u8)> =
+            (1..=jobs).flat_map(|giver| (1..=jobs).map(move |taker| (giver, taker))).filter(|(a, b)| a != b).collect();
+        for chosen in 0..1u64 << pairs.len() {
+            let needs: Vec<(u8, u8)> =
+                (0..pairs.len()).filter(|at| chosen >> at & 1 == 1).map(|at| pairs[at]).collect();
+            for limit in 1..=jobs + 1 {
+                let file = Draft::plain(limit, jobs as usize, &needs).bytes();
+                tester.label = format!("{jobs} jobs, needs {needs:?}, limit {limit}");
+                match tester.plan("plan: all small gates", &file) {
+                    Err(11) => break,
+                    planned => all_lists(tester, &file, planned.ok().and_then(|table| starts_of(&table))),
+                }
+            }
+        }
+    }
+}
+
+/// The rules in words and program P with all its lists of delays say the same of a few start lists.
+pub fn program_p(tester: &mut Tester, seed: u64, count: u64) {
+    for index in 0..count {
+        let mut random = Random::new(seed ^ 0x5050, index);
+        let draft = Draft::sound(&mut random, 5);
+        let needs: Vec<(usize, usize)> =
+            draft.needs.iter().map(|&(giver, taker)| (giver as usize - 1, taker as usize - 1)).collect();
+        let graph = Graph::new(draft.jobs.len(), &needs);
+        let starts = match random.below(3) {
+            0 => (0..draft.jobs.len()).map(|_| random.below(6)).collect(),
+            _ => search::best(&graph, 64).unwrap_or_default(),
+        };
+        let starts: Vec<usize> = starts.iter().map(|start| start + random.below(6) / 5).collect();
+        let slots = lists::slots(&starts);
+        let (words, program) =
+            (lists::keeps_rules(&graph, &starts), lists::satisfies_p(draft.jobs.len(), &needs, &starts, slots));
+        let verdict = if words == program { Ok(()) } else { Err(format!("in words {words}, as printed {program}")) };
+        tester.report.case("program P", verdict, || format!("needs {needs:?}, starts {starts:?}"));
+    }
+}

@@ -1,0 +1,44 @@
+//! Hard files: needs changed step by step so that the search meets more and more states.
+
+use super::limits::{narrow_shape, too_wide, widest};
+use super::random::Random;
+use super::shapes::Shape;
+use crate::reference::needs::Graph;
+use crate::reference::search;
+
+/// Shapes with this many jobs, each at least as hard as the one before, found in so many steps.
+pub fn shapes(random: &mut Random, jobs: usize, steps: usize) -> Vec<Shape> {
+    let mut found = vec![narrow_shape(random, jobs, 50)];
+    let mut effort = effort_of(&found[0]);
+    for _ in 0..steps {
+        let mut changed = found[found.len() - 1].clone();
+        for _ in 0..random.between(1, 3) {
+            toggle(random, &mut changed);
+        }
+        let effort_now = effort_of(&changed);
+        if effort_now >= effort.max(1) {
+            effort = effort_now;
+            found.push(changed);
+        }
+    }
+    found
+}
+
+/// Adds a need, or takes it away if it is there.
+fn toggle(random: &mut Random, shape: &mut Shape) {
+    let need = (random.below(shape.jobs), random.below(shape.jobs));
+    if shape.needs.contains(&need) {
+        shape.needs.retain(|other| *other != need);
+    } else if need.0 != need.1 {
+        shape.needs.push(need);
+    }
+}
+
+/// 0 for needs that have a circle or are too wide.
+fn effort_of(shape: &Shape) -> usize {
+    let graph = Graph::new(shape.jobs, &shape.needs);
+    if graph.has_circle() || too_wide(shape) {
+        return 0;
+    }
+    search::effort(&graph, widest(&graph))
+}

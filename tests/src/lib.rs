@@ -1,0 +1,12 @@
+//! Tries the compiled library from outside: `reference` is a second implementation of document 01, `generate` makes job
+//! files and tables, `stage` calls the library and compares each answer and each byte of every buffer.
+
+pub mod cases;
+pub mod generate;
+pub mod lent;
+pub mod paper;
+pub mod program;
+pub mod reference;
+pub mod report;
+pub mod stage;
+pub mod tester;

@@ -1,0 +1,214 @@
+//! The cases that document 01 names, with their answers written out, and others whose answer its text settles.
+
+use crate::generate::drafts::{field, job_field, need_field, Draft};
+use crate::reference::entries::table_of;
+use crate::reference::needs::Graph;
+use crate::reference::reading::read;
+use crate::reference::table::{Row, Table};
+use crate::reference::text::printed;
+use crate::report::shown;
+use crate::tester::Tester;
+
+/// What the planner answers: a refusal, or starts and boards.
+enum Answer {
+    Refused(u8),
+    Planned(Vec<u8>, Vec<u8>),
+}
+
+use Answer::{Planned, Refused};
+
+/// The needs of Figure 1.
+const FIGURE_1: [(u8, u8); 8] = [(1, 3), (1, 4), (1, 5), (2, 5), (3, 6), (4, 6), (5, 7), (5, 8)];
+
+/// The bytes of the printed example, and what the planning program prints for them.
+const PRINTED_FILE: [u8; 36] = [
+    1, 1, 0, 1, 2, 1, 0, 3, 3, 3, 0, 15, 0, 97, 3, 3, 0, 241, 255, 98, 3, 3, 0, 4, 0, 99, 4, 2, 0, 1, 3, 4, 2, 0, 2, 3,
+];
+const PRINTED: &str = "slots 3 boards 2\n1 a 0 1 2\n2 b 0 2 -2\n3 c 2 1 0\n";
+
+pub fn run(tester: &mut Tester) {
+    for (name, file, answer) in planned_cases() {
+        planned(tester, name, &file, answer);
+    }
+    for (name, draft, width) in widths() {
+        let read = read(&draft.bytes()).expect("a sound file");
+        let found = Graph::new(read.jobs.len(), &read.needs).width(read.limit as i32);
+        let verdict = if found == width { Ok(()) } else { Err(format!("width {found}, not {width}")) };
+        tester.report.case("named: width", verdict, || name.to_string());
+    }
+    printed_example(tester);
+    checked(tester);
+    looked_up(tester);
+}
+
+fn planned_cases() -> Vec<(&'static str, Vec<u8>, Answer)> {
+    let plain = |limit, jobs, needs: &[(u8, u8)]| Draft::plain(limit, jobs, needs).bytes();
+    let chain = |limit, jobs| Draft::chain(limit, jobs).bytes();
+    let (header, limit) = (field(1, &[1]), field(2, &[5]));
+    let job = job_field(0, b"a");
+    let sixty_five = [chain(64, 64), job.clone()].concat();
+    let bad_sixty_fifth = [chain(64, 64), job_field(0, b"a b")].concat();
+    let sound = plain(3, 3, &[(1, 3), (2, 3)]);
+    let filled = |length: usize| [sound.clone(), field(5, &vec![0; length - sound.len() - 3])].concat();
+    vec![
+        ("one job, limit 1", plain(1, 1, &[]), Planned(vec![0], vec![1])),
+        ("one job, limit 64", plain(64, 1, &[]), Planned(vec![0], vec![1])),
+        ("two takers, limit 3", plain(3, 3, &[(1, 2), (1, 3)]), Planned(vec![0, 1, 2], vec![1, 1, 1])),
+        ("two takers, limit 2", plain(2, 3, &[(1, 2), (1, 3)]), Refused(13)),
+        ("two givers, limit 3", sound.clone(), Planned(vec![0, 0, 2], vec![1, 2, 1])),
+        (
+            "figure 1, limit 6",
+            plain(6, 8, &FIGURE_1),
+            Planned(vec![0, 0, 1, 2, 2, 3, 3, 4], vec![1, 2, 1, 1, 2, 1, 2, 1]),
+        ),
+        ("figure 1, limit 4", plain(4, 8, &FIGURE_1), Refused(13)),
+        ("eight jobs, limit 1", plain(1, 8, &[]), Planned(vec![0; 8], (1..=8).collect())),
+        ("nine jobs, limit 1", plain(1, 9, &[]), Refused(12)),
+        ("chain of 9, limit 16", chain(16, 9), Planned((0..9).collect(), vec![1; 9])),
+        ("chain of 9, limit 17", chain(17, 9), Refused(12)),
+        ("chain of 9, limit 8", chain(8, 9), Refused(13)),
+        ("empty file", Vec::new(), Refused(10)),
+        ("header and comment only", [header.clone(), field(5, b"x")].concat(), Refused(5)),
+        ("tag 9 first", field(9, &[1]), Refused(4)),
+        ("tag 3 first", job.clone(), Refused(5)),
+        ("chain of 64, limit 64", chain(64, 64), Planned((0..64).collect(), vec![1; 64])),
+        ("a 65th job", sixty_five, Refused(7)),
+        ("needs 1-2, 2-1", plain(5, 2, &[(1, 2), (2, 1)]), Refused(11)),
+        ("comment of length 0 last", [sound.clone(), field(5, &[])].concat(), Planned(vec![0, 0, 2], vec![1, 2, 1])),
+        // settled by the text
+        ("16,384 bytes", filled(16_384), Planned(vec![0, 0, 2], vec![1, 2, 1])),
+        ("16,385 bytes", filled(16_385), Refused(2)),
+        ("16,385 bytes that are no file", vec![9; 16_385], Refused(2)),
+        ("header only", header.clone(), Refused(10)),
+        ("header and limit only", [header.clone(), limit.clone()].concat(), Refused(10)),
+        ("limit first", [limit.clone(), header.clone()].concat(), Refused(5)),
+        ("a second header", [sound.clone(), header.clone()].concat(), Refused(5)),
+        ("one byte left over", [sound.clone(), vec![9]].concat(), Refused(3)),
+        ("two bytes left over", [sound.clone(), vec![5, 0]].concat(), Refused(3)),
+        ("a value cut short", [sound.clone(), vec![5, 1, 0]].concat(), Refused(3)),
+        ("a bad 65th job", bad_sixty_fifth, Refused(6)),
+        ("the first bad field decides", [sound.clone(), need_field(1, 1), field(9, &[])].concat(), Refused(8)),
+        ("a need before its job", [header, limit, job.clone(), need_field(1, 2), job].concat(), Refused(8)),
+        ("a need with number 0", [sound.clone(), need_field(0, 1)].concat(), Refused(8)),
+        ("a need twice", [sound.clone(), need_field(1, 3)].concat(), Refused(9)),
+        ("a need turned round", [sound, need_field(3, 1)].concat(), Refused(11)),
+        ("too wide and impossible", plain(1, 11, &[(1, 2)]), Refused(12)),
+        (
+            "a release raised by 1 only, givers not tied",
+            plain(4, 4, &[(1, 2), (2, 3), (4, 3)]),
+            Planned(vec![0, 1, 2, 0], vec![1, 1, 1, 2]),
+        ),
+        (
+            "a start later than its window's first slot",
+            plain(4, 4, &[(1, 2), (1, 3), (3, 4)]),
+            Planned(vec![0, 2, 1, 2], vec![1, 2, 1, 1]),
+        ),
+    ]
+}
+
+/// Files with the width that document 01 gives.
+fn widths() -> Vec<(&'static str, Draft, usize)> {
+    vec![
+        ("figure 1, limit 6", Draft::plain(6, 8, &FIGURE_1), 6),
+        ("chain of 9, limit 16", Draft::chain(16, 9), 8),
+        ("chain of 9, limit 8", Draft::chain(8, 9), 0),
+    ]
+}
+
+/// Plans a file; the answer must be the one written here and the reference's.
+fn planned(tester: &mut Tester, name: &str, file: &[u8], answer: Answer) {
+    tester.label = name.to_string();
+    let found = tester.plan("named: plan", file);
+    let table = found.as_ref().ok().and_then(|bytes| Table::read(bytes));
+    let right = match (&answer, &found, &table) {
+        (Refused(number), Err(found), _) => found == number,
+        (Planned(starts, boards), _, Some(table)) => {
+            table.rows.iter().map(|row| row.start).eq(starts.iter().copied())
+                && table.rows.iter().map(|row| row.board).eq(boards.iter().copied())
+        }
+        _ => false,
+    };
+    let verdict = if right { Ok(()) } else { Err(format!("{found:?}")) };
+    tester.report.case("named: the reference's answer", verdict, || name.to_string());
+}
+
+/// The answer for the printed example, printed as the planning program does.
+fn printed_example(tester: &mut Tester) {
+    tester.label = "printed example".to_string();
+    let text = printed(&tester.plan("named: plan", &PRINTED_FILE));
+    let verdict = if text == PRINTED { Ok(()) } else { Err(text) };
+    tester.report.case("named: the reference's answer", verdict, || "printed example".to_string());
+}
+
+/// Tables for needs 1-3, 2-3, limit 4: starts and boards of the three jobs, and what the check says.
+fn checked(tester: &mut Tester) {
+    let draft = Draft::plain(4, 3, &[(1, 3), (2, 3)]);
+    let cases: [(&'static str, [u8; 3], [u8; 3], Passes); 9] = [
+        ("the planned table", [0, 0, 2], [1, 2, 1], Ok(())),
+        ("as short, not preferred", [0, 1, 2], [1, 2, 2], Ok(())),
+        ("longer than needed", [0, 1, 3], [3, 1, 8], Ok(())),
+        ("beyond the limit", [0, 1, 4], [1, 1, 1], Err(16)),
+        ("board 9", [0, 0, 2], [1, 9, 1], Err(16)),
+        ("board 0", [0, 0, 2], [1, 0, 1], Err(16)),
+        ("two jobs in one place", [0, 0, 2], [1, 1, 1], Err(17)),
+        ("one slot across boards", [0, 0, 1], [1, 2, 1], Err(18)),
+        ("before its giver", [1, 1, 0], [1, 2, 1], Err(18)),
+    ];
+    let read = read(&draft.bytes()).expect("a sound file");
+    for (name, starts, boards, answer) in cases {
+        let table = table_of(&read, &starts.map(usize::from), &boards).bytes();
+        checks(tester, name, &draft.bytes(), &table, answer);
+    }
+    let wide = Draft::plain(64, 9, &[]);
+    let wide_read = self::read(&wide.bytes()).expect("a sound file");
+    let table = table_of(&wide_read, &[0, 1, 2, 3, 4, 5, 6, 7, 8], &[1; 9]).bytes();
+    checks(tester, "a table for a file that is too wide to plan", &wide.bytes(), &table, Ok(()));
+    checks(tester, "an empty table", &wide.bytes(), &[], Err(14));
+    checks(tester, "a circle comes before the table", &Draft::plain(4, 2, &[(1, 2), (2, 1)]).bytes(), &[], Err(11));
+}
+
+/// What check and lookup answer.
+type Passes = Result<(), u8>;
+type Found = Result<Option<usize>, u8>;
+
+fn checks(tester: &mut Tester, name: &str, file: &[u8], table: &[u8], answer: Passes) {
+    tester.label = name.to_string();
+    let found = tester.check("named: check", file, table);
+    let verdict = if found == answer { Ok(()) } else { Err(format!("{found:?}")) };
+    tester.report.case("named: the reference's answer", verdict, || format!("{name}, table {}", shown(table)));
+}
+
+/// Tables by the starts and boards of their rows, their counts made to fit, and what the lookup says of one place.
+fn looked_up(tester: &mut Tester) {
+    let row = |start, board| Row { start, board, level: 0, name: b"a".to_vec() };
+    let chain: Vec<Row> = (0..64).map(|start| row(start, 8)).collect();
+    let too_many = [&chain[..], &[row(0, 1)]].concat();
+    let cases: [(&'static str, Vec<Row>, (usize, usize), Found); 15] = [
+        ("its job", vec![row(0, 1), row(63, 8)], (63, 8), Ok(Some(2))),
+        ("another board", vec![row(63, 8)], (63, 7), Ok(None)),
+        ("another slot", vec![row(63, 8)], (62, 8), Ok(None)),
+        ("board 0", vec![row(63, 8)], (63, 0), Ok(None)),
+        ("beyond the slots", vec![row(63, 8)], (64, 8), Ok(None)),
+        ("beyond the boards", vec![row(63, 8)], (63, 9), Ok(None)),
+        ("a slot that would wrap", vec![row(63, 8)], (63 + 256, 8), Ok(None)),
+        ("64 rows", chain, (63, 8), Ok(Some(64))),
+        ("65 rows", too_many, (63, 8), Err(14)),
+        ("no row", Vec::new(), (0, 0), Err(14)),
+        ("65 slots", vec![row(64, 8)], (0, 1), Err(16)),
+        ("a start of 255", vec![row(255, 8)], (0, 1), Err(16)),
+        ("board 9 in the table", vec![row(0, 9)], (0, 1), Err(16)),
+        ("board 0 in the table", vec![row(0, 1), row(1, 0)], (0, 0), Err(16)),
+        ("two jobs in one place", vec![row(0, 1), row(0, 1)], (5, 5), Err(17)),
+    ];
+    for (name, rows, (slot, board), answer) in cases {
+        let mut table = Table { slots: 0, boards: 0, rows };
+        table.recount();
+        let table = table.bytes();
+        tester.label = name.to_string();
+        let found = tester.lookup("named: lookup", &table, slot, board);
+        let verdict = if found == answer { Ok(()) } else { Err(format!("{found:?}")) };
+        tester.report.case("named: the reference's answer", verdict, || name.to_string());
+        tester.lookups("named: lookup", &table);
+        tester.all_lookups("named: lookup", &table);
+    }
+}

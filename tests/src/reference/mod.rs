@@ -1,0 +1,11 @@
+//! Document 01 written a second time, to compare the compiled library with. It shares nothing with the library: own
+//! reading, own search, own check and lookup. Jobs are counted from 0 here and from 1 in files, tables and answers.
+
+pub mod boards;
+pub mod entries;
+pub mod lists;
+pub mod needs;
+pub mod reading;
+pub mod search;
+pub mod table;
+pub mod text;

@@ -1,0 +1,115 @@
+//! Reading a job file: questions 2 to 10.
+
+/// A job as the file has it.
+#[derive(Clone, Debug, PartialEq)]
+pub struct Job {
+    /// In millimetres.
+    pub level: i16,
+    pub name: Vec<u8>,
+}
+
+/// A readable job file. Needs are pairs of giver and taker, counted from 0.
+#[derive(Clone, Debug, PartialEq)]
+pub struct JobFile {
+    pub limit: u8,
+    pub jobs: Vec<Job>,
+    pub needs: Vec<(usize, usize)>,
+}
+
+pub const LONGEST_FILE: usize = 16_384;
+pub const MOST_JOBS: usize = 64;
+
+/// May this byte stand in a name?
+pub fn in_name(byte: u8) -> bool {
+    (33..=126).contains(&byte)
+}
+
+/// The file, or the number of the first question with a "no".
+pub fn read(bytes: &[u8]) -> Result<JobFile, u8> {
+    if bytes.len() > LONGEST_FILE {
+        return Err(2);
+    }
+    let mut file = JobFile { limit: 0, jobs: Vec::new(), needs: Vec::new() };
+    let mut fields = 0;
+    let mut rest = bytes;
+    while !rest.is_empty() {
+        let (tag, value, behind) = take_field(rest).ok_or(3)?;
+        if !(1..=5).contains(&tag) {
+            return Err(4);
+        }
+        let in_place = match fields {
+            0 => tag == 1,
+            1 => tag == 2,
+            _ => tag > 2,
+        };
+        if !in_place {
+            return Err(5);
+        }
+        match tag {
+            1 => read_header(value)?,
+            2 => file.limit = read_limit(value)?,
+            3 => read_job(value, &mut file)?,
+            4 => read_need(value, &mut file)?,
+            _ => (),
+        }
+        fields += 1;
+        rest = behind;
+    }
+    if fields < 2 || file.jobs.is_empty() {
+        return Err(10);
+    }
+    Ok(file)
+}
+
+/// Tag and value of the first field, and the bytes behind it; none if head or value is not whole.
+pub fn take_field(bytes: &[u8]) -> Option<(u8, &[u8], &[u8])> {
+    let [tag, low, high, rest @ ..] = bytes else { return None };
+    let length = u16::from_le_bytes([*low, *high]) as usize;
+    if length > rest.len() {
+        return None;
+    }
+    let (value, behind) = rest.split_at(length);
+    Some((*tag, value, behind))
+}
+
+fn read_header(value: &[u8]) -> Result<(), u8> {
+    if value == [1] {
+        Ok(())
+    } else {
+        Err(6)
+    }
+}
+
+fn read_limit(value: &[u8]) -> Result<u8, u8> {
+    match value {
+        [limit @ 1..=64] => Ok(*limit),
+        _ => Err(6),
+    }
+}
+
+fn read_job(value: &[u8], file: &mut JobFile) -> Result<(), u8> {
+    let [low, high, name @ ..] = value else { return Err(6) };
+    if name.is_empty() || name.len() > 12 || !name.iter().all(|&byte| in_name(byte)) {
+        return Err(6);
+    }
+    if file.jobs.len() == MOST_JOBS {
+        return Err(7);
+    }
+    file.jobs.push(Job { level: i16::from_le_bytes([*low, *high]), name: name.to_vec() });
+    Ok(())
+}
+
+fn read_need(value: &[u8], file: &mut JobFile) -> Result<(), u8> {
+    let [giver, taker] = value else { return Err(6) };
+    let (giver, taker) = (*giver as usize, *taker as usize);
+    let known = 1..=file.jobs.len();
+    if !known.contains(&giver) || !known.contains(&taker) || giver == taker {
+        return Err(8);
+    }
+    let need = (giver - 1, taker - 1);
+    if file.needs.contains(&need) {
+        return Err(9);
+    }
+    file.needs.push(need);
+    Ok(())
+}

@@ -1,0 +1,180 @@
+//! Calls the library and compares. Buffers are full of noise before a call, and after it every byte of every buffer, and
+//! some in front of it, must be what document 01 says.
+
+use crate::generate::random::Random;
+use crate::lent::Lent;
+use crate::reference::entries;
+
+pub const LONGEST_INPUT: usize = 1 << 17;
+pub const LONGEST_WORK: usize = entries::WORK_BYTES + 8192;
+/// Bytes watched in front of each buffer.
+const MARGIN: usize = 64;
+const REFUSED: u32 = 65_536;
+static ZEROS: [u8; entries::WORK_BYTES] = [0; entries::WORK_BYTES];
+
+/// What went wrong, in words.
+pub type Verdict = Result<(), String>;
+
+pub struct Stage {
+    file: Lent,
+    work: Lent,
+    table: Lent,
+    noise: Vec<u8>,
+}
+
+impl Stage {
+    pub fn new() -> Stage {
+        Stage {
+            file: Lent::new(LONGEST_INPUT),
+            work: Lent::new(LONGEST_WORK + MARGIN),
+            table: Lent::new(LONGEST_INPUT),
+            noise: Random::new(0, 0).bytes(2 * LONGEST_INPUT),
+        }
+    }
+
+    /// Plans a file with buffers of these lengths; answers what document 01 says, beside the verdict.
+    pub fn plan(
+        &mut self,
+        random: &mut Random,
+        file: &[u8],
+        work_len: usize,
+        table_len: usize,
+    ) -> (Result<Vec<u8>, u8>, Verdict) {
+        let expected = entries::plan(file, work_len, table_len);
+        let noise = &self.noise[random.below(LONGEST_INPUT)..];
+        let (work_noise, table_noise) = (&noise[..work_len + MARGIN], &noise[..table_len + MARGIN]);
+        let lent_file = self.file.holding(file);
+        let work = self.work.holding(work_noise);
+        let table = self.table.holding(table_noise);
+
+        let answer = call_plan(random.percent(50), lent_file, &mut work[MARGIN..], &mut table[MARGIN..]);
+
+        let number = match &expected {
+            Ok(table) => table.len() as u32,
+            Err(number) => REFUSED + *number as u32,
+        };
+        let zeroed = if expected == Err(1) { 0 } else { entries::WORK_BYTES };
+        let written = expected.as_ref().map_or(&[][..], |table| &table[..]);
+        let verdict = same("gate_plan", answer, number)
+            .and_then(|()| unchanged("the job file", lent_file, file))
+            .and_then(|()| overwritten("the working buffer", work, work_noise, &ZEROS[..zeroed]))
+            .and_then(|()| overwritten("the table buffer", table, table_noise, written));
+        (expected, verdict)
+    }
+
+    /// Checks a table for a file.
+    pub fn check(&mut self, random: &mut Random, file: &[u8], table: &[u8]) -> (Result<(), u8>, Verdict) {
+        let expected = entries::check(file, table);
+        let (lent_file, lent_table) = (self.file.holding(file), self.table.holding(table));
+        let answer = call_check(random.percent(50), lent_file, lent_table);
+        let verdict = same("gate_check", answer, expected.err().unwrap_or(0) as u32)
+            .and_then(|()| unchanged("the job file", lent_file, file))
+            .and_then(|()| unchanged("the table", lent_table, table));
+        (expected, verdict)
+    }
+
+    /// Looks up a slot and a board, and the name there.
+    pub fn lookup(
+        &mut self,
+        random: &mut Random,
+        table: &[u8],
+        slot: usize,
+        board: usize,
+    ) -> (Result<Option<usize>, u8>, Verdict) {
+        let expected = entries::lookup(table, slot, board);
+        let number = match expected {
+            Ok(job) => job.unwrap_or(0) as u32,
+            Err(number) => REFUSED + number as u32,
+        };
+        let part = entries::name(table, slot, board).map_or(0, |part| part.start << 16 | part.len());
+        let lent = self.table.holding(table);
+        let job = call_lookup(random.percent(50), lent, slot, board);
+        let name = call_name(random.percent(50), lent, slot, board);
+        let verdict = same("gate_lookup", job, number)
+            .and_then(|()| same("gate_name_at", name, part as u32))
+            .and_then(|()| unchanged("the table", lent, table))
+            .map_err(|what| format!("{what} (slot {slot}, board {board})"));
+        (expected, verdict)
+    }
+}
+
+/// Each call below goes through the C form or through the safe form, whose answer is put back into the number that the
+/// C form gives.
+fn call_plan(c_form: bool, file: &[u8], work: &mut [u8], table: &mut [u8]) -> u32 {
+    if c_form {
+        let (work_at, table_at) = (work.as_mut_ptr(), table.as_mut_ptr());
+        // SAFETY: pointers and lengths of slices, the last two of them mutable.
+        return unsafe { gate::c::gate_plan(file.as_ptr(), file.len(), work_at, work.len(), table_at, table.len()) };
+    }
+    match gate::plan(file, work, table) {
+        Ok(length) => length as u32,
+        Err(refusal) => REFUSED + refusal.0,
+    }
+}
+
+fn call_check(c_form: bool, file: &[u8], table: &[u8]) -> u32 {
+    if c_form {
+        // SAFETY: pointers and lengths of slices.
+        return unsafe { gate::c::gate_check(file.as_ptr(), file.len(), table.as_ptr(), table.len()) };
+    }
+    gate::check(file, table).map_or_else(|refusal| refusal.0, |()| 0)
+}
+
+fn call_lookup(c_form: bool, table: &[u8], slot: usize, board: usize) -> u32 {
+    if c_form {
+        // SAFETY: pointer and length of a slice.
+        return unsafe { gate::c::gate_lookup(table.as_ptr(), table.len(), slot, board) };
+    }
+    match gate::lookup(table, slot, board) {
+        Ok(job) => job.unwrap_or(0),
+        Err(refusal) => REFUSED + refusal.0,
+    }
+}
+
+fn call_name(c_form: bool, table: &[u8], slot: usize, board: usize) -> u32 {
+    if c_form {
+        // SAFETY: pointer and length of a slice.
+        return unsafe { gate::c::gate_name_at(table.as_ptr(), table.len(), slot, board) };
+    }
+    let name = gate::name(table, slot, board);
+    if name.is_empty() {
+        return 0;
+    }
+    let offset = name.as_ptr() as usize - table.as_ptr() as usize;
+    (offset << 16 | name.len()) as u32
+}
+
+fn same(entry: &str, answer: u32, expected: u32) -> Verdict {
+    if answer == expected {
+        Ok(())
+    } else {
+        Err(format!("{entry} answered {}, not {}", spelled(answer), spelled(expected)))
+    }
+}
+
+fn spelled(answer: u32) -> String {
+    match answer.checked_sub(REFUSED) {
+        Some(number) if number < 100 => format!("refused {number}"),
+        _ => answer.to_string(),
+    }
+}
+
+fn unchanged(what: &str, now: &[u8], before: &[u8]) -> Verdict {
+    if now == before {
+        Ok(())
+    } else {
+        Err(format!("{what} was changed"))
+    }
+}
+
+/// A buffer, with its margin, that holds `written` in front and what was there before behind it.
+fn overwritten(what: &str, now: &[u8], before: &[u8], written: &[u8]) -> Verdict {
+    let end = MARGIN + written.len();
+    let right = now[..MARGIN] == before[..MARGIN] && now[MARGIN..end] == *written && now[end..] == before[end..];
+    if right {
+        return Ok(());
+    }
+    let expected = [&before[..MARGIN], written, &before[end..]].concat();
+    let at = (0..now.len()).find(|&at| now[at] != expected[at]).unwrap_or(0);
+    Err(format!("{what} has {} at byte {}, not {}", now[at], at as isize - MARGIN as isize, expected[at]))
+}
