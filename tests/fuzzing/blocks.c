@@ -17,7 +17,6 @@
 
 __attribute__((section("__libfuzzer_extra_counters"))) static uint8_t counters[MOST_BLOCKS];
 static uint8_t *blocks[MOST_BLOCKS], first_byte[MOST_BLOCKS];
-static uintptr_t addresses[MOST_BLOCKS];
 static size_t count, reached;
 
 static void on_breakpoint(int number, siginfo_t *info, void *context) {
@@ -37,10 +36,7 @@ static void on_breakpoint(int number, siginfo_t *info, void *context) {
 }
 
 static void report(void) {
-    fprintf(stderr, "archive: %zu of %zu basic blocks reached", reached, count);
-    for (size_t i = 0, shown = 0; i < count; i++)
-        if (*blocks[i] == BREAKPOINT && shown++ < 20) fprintf(stderr, "%s%lx", shown == 1 ? ", not: " : " ", addresses[i]);
-    fprintf(stderr, "\n");
+    fprintf(stderr, "archive: %zu of %zu basic blocks reached\n", reached, count);
 }
 
 int LLVMFuzzerInitialize(int *argc, char ***argv) {
@@ -55,7 +51,6 @@ int LLVMFuzzerInitialize(int *argc, char ***argv) {
         uint8_t *page = (uint8_t *)((uintptr_t)at & ~(PAGE - 1));
         if (mprotect(page, PAGE, PROT_READ | PROT_WRITE | PROT_EXEC)) return perror("mprotect"), exit(2), 0;
         blocks[count] = at;
-        addresses[count] = block;
         first_byte[count++] = *at;
         *at = BREAKPOINT;
     }
