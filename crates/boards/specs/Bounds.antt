@@ -8,6 +8,7 @@ use native.Mathlib.Omega.{arith}
 use lib.ListN.{length, set, replicate}
 use Rattle.rules.specs.Basics.{choose, at}
 use Rattle.laws.specs.Tests.{by-choice}
+use Rattle.laws.specs.Lists.{zeros-at}
 use Rattle.jobset.specs.declared.Set.{Set}
 use Rattle.jobset.specs.Sets.{digit, member, setAt, empty, isEmpty, lowest, fallingFrom, falling}
 use Rattle.jobset.specs.Lowest.{below-lowest}
@@ -88,10 +89,5 @@ place-slots-below givers runs zero s last b f = f
 place-slots-below givers runs (suc k) s last b f = place-slots-below givers runs k (suc s) (setAt runs s) (placeSlot givers last (setAt runs s) b) (place-slot-below givers last (setAt runs s) b f)
 
 -- an array of zeros
-pub zeros-at : (n i : ℕ) → at (replicate n 0) i ≡ 0
-zeros-at zero i = refl
-zeros-at (suc n) zero = refl
-zeros-at (suc n) (suc i) = zeros-at n i
-
 pub zeros-below : (n : ℕ) → Below64 (replicate n 0)
 zeros-below n p = omega (arith, zeros-at n p)

@@ -1,4 +1,4 @@
--- An array that is filled job by job: its entries, and the array by place of a list. Assumes nothing.
+-- An array that is filled job by job: its entries. Assumes nothing.
 use mathlib.Core.Path.{_≡_, refl, sym, _∙_}
 use mathlib.Core.List.{List}
 use Prim.Native.Nat.{ℕ, zero, suc, _+_, _-_, _≤_, _<_}
@@ -41,24 +41,3 @@ module _ (f : ℕ → ℕ) (a : List ℕ) where
   unfolding filled
   filled-later zero i h l = refl
   filled-later (suc k) i h l = getD-set-other (filled f a k) (63 - k) (63 - i) (f k) 0 (λ e. omega arith) ∙ filled-later k i (omega arith) l
-
--- an array with entry i of the list at place 63 - i, 0 where the list has none
-unfoldable pub byPlace : List ℕ → List ℕ
-byPlace l = tabulate (λ p. at l (63 - p)) 64 0
-
--- an array of 64 entries, that of each job at its place
-pub by-place-is : (l a : List ℕ) → length a ≡ 64 → ((i : ℕ) → i < 64 → at a (63 - i) ≡ at l i) → a ≡ byPlace l
-unfolding byPlace
-by-place-is l a len h = ext-getD 0 a (byPlace l) (len ∙ sym (length-tabulate (λ p. at l (63 - p)) 64 0)) (λ p k. go p (omega arith))
-  where
-    go : (p : ℕ) → p < 64 → at a p ≡ at (tabulate (λ q. at l (63 - q)) 64 0) p
-    go p k =
-        let e : 63 - (63 - p) ≡ p = omega arith in
-        rw (tabulate-at (λ q. at l (63 - q)) 64 0 p 0 k, zero-add) (rw e at (h (63 - p) (omega arith)))
-
--- the entry of job i
-pub by-place-at : (l : List ℕ) (i : ℕ) → i < 64 → at (byPlace l) (63 - i) ≡ at l i
-unfolding byPlace
-by-place-at l i h =
-    let e : 63 - (63 - i) ≡ i = omega arith in
-    tabulate-at (λ p. at l (63 - p)) 64 0 (63 - i) 0 (omega arith) ∙ rw (zero-add, e)

@@ -7,8 +7,9 @@ use native.Mathlib.Omega.{arith}
 use lib.ListN.{length, List·getD-eq-default}
 use Rattle.rules.specs.Basics.{at, most, largest}
 use Rattle.laws.specs.Counting.{most-ge, most-le, at-largest, largest-lt}
+use Rattle.laws.specs.Places.{byPlace, by-place-is}
 use Rattle.boards.specs.Placing.{boardNumber, numbered}
-use Rattle.boards.specs.Filled.{filled-size, filled-done, filled-later, byPlace, by-place-is}
+use Rattle.boards.specs.Filled.{filled-size, filled-done, filled-later}
 use Rattle.boards.specs.ByPlace.{Matches}
 
 module _ (n : ℕ) (few : n ≤ 64) (b a : List ℕ) (len : length b ≡ n) (m : Matches b a) (low : (i : ℕ) → i < n → 1 ≤ at b i) where

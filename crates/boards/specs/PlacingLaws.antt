@@ -12,14 +12,14 @@ use Rattle.laws.specs.Counting.{most-ge, at-largest}
 use Rattle.laws.specs.BoardStep.{Given}
 use Rattle.laws.specs.BoardSlots.{slot-given}
 use Rattle.laws.specs.BoardLaws.{boards-length, boards-low}
+use Rattle.laws.specs.Lists.{zeros-at}
+use Rattle.laws.specs.Places.{byPlace}
 use Rattle.jobset.specs.declared.Set.{Set}
 use Rattle.jobset.specs.Sets.{setAt, empty}
 use Rattle.jobset.specs.Arrays.{GiversAre}
 use Rattle.boards.specs.declared.Placed.{Placed}
 use Rattle.boards.specs.Placing.{slotSets, placeSlot, placeSlots, placed, Startable}
-use Rattle.boards.specs.Bounds.{zeros-at}
 use Rattle.boards.specs.ByPlace.{Places, places-same, places-none, Matches}
-use Rattle.boards.specs.Filled.{byPlace}
 use Rattle.boards.specs.Numbered.{numbered-is, count-is}
 use Rattle.boards.specs.SlotSets.{sets-are}
 use Rattle.boards.specs.SlotLaws.{slot-matches}

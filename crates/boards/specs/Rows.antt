@@ -3,10 +3,10 @@ use mathlib.Core.List.{List, [], _∷_, map}
 use Prim.Native.Nat.{ℕ, zero, suc, _-_, _≤_, _<_}
 use lib.ListN.{length, set, getD, replicate}
 use Rattle.rules.specs.Basics.{at}
+use Rattle.laws.specs.Places.{byPlace}
 use Rattle.boards.specs.declared.JobRecord.{JobRecord}
 use Rattle.boards.specs.declared.Columns.{Columns}
 use Rattle.boards.specs.Placing.{filled, placed}
-use Rattle.boards.specs.Filled.{byPlace}
 
 -- ---- what the thin form gives
 

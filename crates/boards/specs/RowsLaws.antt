@@ -12,12 +12,13 @@ use Rattle.rules.specs.Basics.{at, largest}
 use Rattle.rules.specs.Needs.{Need}
 use Rattle.rules.specs.Program.{slots}
 use Rattle.rules.specs.Boards.{boards}
+use Rattle.laws.specs.Lists.{zeros-at}
+use Rattle.laws.specs.Places.{byPlace, by-place-is, by-place-at}
 use Rattle.boards.specs.declared.JobRecord.{JobRecord}
 use Rattle.boards.specs.declared.Columns.{Columns}
 use Rattle.boards.specs.declared.Placed.{Placed}
 use Rattle.boards.specs.Placing.{filled, placed, Startable}
-use Rattle.boards.specs.Bounds.{zeros-at}
-use Rattle.boards.specs.Filled.{filled-none, filled-next, filled-size, filled-done, filled-later, byPlace, by-place-is, by-place-at}
+use Rattle.boards.specs.Filled.{filled-none, filled-next, filled-size, filled-done, filled-later}
 use Rattle.boards.specs.PlacingLaws.{ArraysHold, rulesPlaced, place-is}
 use Rattle.boards.specs.Rows.{startsOf, withBoards, RowsPlaced, placeRows, RowsStartable, nthRecord, blankColumns, withStart, loaded, placeColumns, recordOf, stored}
 

@@ -7,30 +7,15 @@ use Prim.Native.Nat.{ℕ, zero, suc, _<_}
 use native.Mathlib.Omega.{arith}
 use borrow.Author.Tests.{eq-eqb, eqb-true}
 use lib.Dec.{T, eqb}
-use Rattle.rules.specs.Basics.{choose, all, any, range, filter}
+use Rattle.rules.specs.Basics.{choose, all, any}
 use Rattle.laws.specs.Tests.{T-all, T-any, T-true}
-use Rattle.laws.specs.Lists.{range-in, range-all, filter-mem, filter-mem⁻¹}
 use Rattle.jobset.specs.declared.Set.{Set}
-use Rattle.jobset.specs.Sets.{setAt, member, intersection, isSubset, isEmpty, isOne, membersFrom, members, Subset}
+use Rattle.jobset.specs.Sets.{setAt, member, intersection, isSubset, isEmpty, isOne, members, Subset}
 use Rattle.jobset.specs.Membership.{member-empty, member-with, member-union}
+use Rattle.jobset.specs.Members.{in-members}
 use Rattle.jobset.specs.Inclusion.{is-subset}
 use Rattle.explore.specs.declared.Candidates.{Candidates}
 use Rattle.explore.specs.Slot.{Tables, isForced, isTied, sortJob, sortJobs, noCandidates, candidatesOf, exact, allowed}
-
--- ---- the list of the members of a set
-
-members-filter : (k i : ℕ) (s : Set) → membersFrom k i s ≡ filter (member s) (range k i)
-unfolding membersFrom filter range
-members-filter zero i s = refl
-members-filter (suc k) i s = rw (members-filter k (suc i) s)
-
--- the list has just the members
-pub in-members : (s : Set) (i : ℕ) → List·Memᴰ i (members s) ↔ ((i < 64) × (member s i ≡ true))
-unfolding members
-in-members s i = rw (members-filter 64 0 s) (
-  λ m. let w = filter-mem⁻¹ (member s) (range 64 0) i m in (omega (arith, range-in 64 0 i (w .0)), T-true (member s i) .0 (w .1)),
-  λ h. filter-mem (member s) (range 64 0) i (range-all 64 0 i (omega arith) (omega (arith, h .0))) (T-true (member s i) .1 (h .1)),
-)
 
 -- ---- the candidates
 

@@ -12,7 +12,7 @@ use Rattle.jobset.specs.declared.Set.{Set}
 use Rattle.jobset.specs.Sets.{digit, member, members}
 use Rattle.jobset.specs.Digits.{digit-lt}
 use Rattle.explore.specs.Slot.{heldBefore}
-use Rattle.explore.specs.CandidateLaws.{in-members}
+use Rattle.jobset.specs.Members.{in-members}
 use Rattle.explore.specs.Model.{coded, codeOf, key}
 
 -- at most eight windows hold one slot of a search in `slots` slots

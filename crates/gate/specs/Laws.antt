@@ -1,16 +1,49 @@
 -- The numbers of the answers are those of the rules, and the name's number says where it stands. Assumes nothing.
-use mathlib.Core.Path.{_≡_, refl, sym, ap, _∙_}
+use mathlib.Core.Path.{_≡_, refl, sym, ap, subst, _∙_}
 use mathlib.Core.List.{List, []}
 use Prim.Native.Nat.{ℕ, zero, suc, _+_, _-_, _*_, _/_, _%_, _≤_, _<_}
 use native.Mathlib.Omega.{arith}
 use lib.ListN.{take, drop}
+use lib.Dec.{eqb}
+use Rattle.rules.specs.Sizes.{tableSize}
+use Rattle.rules.specs.Basics.{at}
 use Rattle.rules.specs.Fields.{Answer, refused, got, numberOf, part}
-use Rattle.rules.specs.Table.{Table}
-use Rattle.rules.specs.Answers.{lookup, name}
-use Rattle.table.specs.Rows.{rowStart}
-use Rattle.table.specs.Entries.{verdictOf, foundOf, placeOf, partOf}
-use Rattle.table.specs.Names.{name-lies, name-is}
-use Rattle.gate.specs.Numbers.{verdictNumber, foundNumber, placeNumber, lookupNumber, nameNumber}
+use Rattle.rules.specs.Table.{Table, rowStart}
+use Rattle.rules.specs.Answers.{Outcome, plan, lookup, nameSpan, nameAt}
+use Rattle.laws.specs.Tests.{T-eqb, choose-yes, choose-no}
+use Rattle.laws.specs.Numbers.{bytes-all}
+use Rattle.laws.specs.Demands.{plan-size, table-has-bytes}
+use Rattle.planner.specs.Planner.{outcomeOf}
+use Rattle.planner.specs.declared.Planned.{Planned}
+use Rattle.planner.specs.declared.Planned.the-variants as planned
+use Rattle.table.specs.Entries.{verdictOf, foundOf, placeOf}
+use Rattle.table.specs.Names.{name-lies}
+use Rattle.gate.specs.Numbers.{planNumber, verdictNumber, foundNumber, placeNumber, lookupNumber, nameNumber}
+
+-- the planner's answer p leaves the buffers work′ and table′
+module _ (file work table : List ℕ) (p : Planned) (work′ table′ : List ℕ) (answered : outcomeOf p work′ table′ ≡ plan file work table) where
+  abbrev Answered : ℕ → Type 0
+  Answered r = (r ≡ planNumber (plan file work table)) × ((work′ ≡ plan file work table .work) × (table′ ≡ plan file work table .table))
+
+  -- a table: its length, which is small
+  pub table-number : (k : ℕ) → p ≡ planned.Table k → Answered k
+  unfolding planNumber
+  table-number k e =
+      let h : outcomeOf (planned.Table k) work′ table′ ≡ plan file work table = subst (λ (q : Planned). outcomeOf q work′ table′ ≡ plan file work table) e answered in
+      (sym (ap planNumber (sym h) ∙ choose-yes _ _ _ (T-eqb 0 0 .1 refl)), (ap (λ (o : Outcome). o .work) h, ap (λ (o : Outcome). o .table) h))
+
+  pub table-few : (k : ℕ) → p ≡ planned.Table k → ((i : ℕ) → at file i < 256) → k ≤ tableSize
+  table-few k e b =
+      let h : outcomeOf (planned.Table k) work′ table′ ≡ plan file work table = subst (λ (q : Planned). outcomeOf q work′ table′ ≡ plan file work table) e answered in
+      omega (arith, ap (λ (o : Outcome). o .length) h, plan-size file work table (bytes-all file b))
+
+  -- a refusal: its number is not 0, since a table has bytes
+  pub refusal-number : (q : ℕ) → p ≡ planned.Refused q → Answered (65536 + q)
+  unfolding planNumber
+  refusal-number q e =
+      let h : outcomeOf (planned.Refused q) work′ table′ ≡ plan file work table = subst (λ (r : Planned). outcomeOf r work′ table′ ≡ plan file work table) e answered in
+      let n : q ≡ 0 → ⊥ = λ z. omega (arith, ap (λ (o : Outcome). o .length) h, table-has-bytes file work table (sym (ap (λ (o : Outcome). o .number) h) ∙ z)) in
+      (sym (ap planNumber (sym h) ∙ choose-no _ _ _ (λ t. n (T-eqb q 0 .0 t))), (ap (λ (o : Outcome). o .work) h, ap (λ (o : Outcome). o .table) h))
 
 pub verdict-number : (x : Answer Table) → verdictNumber (verdictOf x) ≡ numberOf x
 unfolding verdictNumber verdictOf numberOf
@@ -24,19 +57,20 @@ found-number (got zero) = refl
 found-number (got (suc i)) = refl
 
 pub place-number : (bs : List ℕ) (x : Answer ℕ) → placeNumber (placeOf bs x) ≡ nameNumber bs x
-unfolding placeNumber placeOf nameNumber
+unfolding placeNumber placeOf nameNumber nameSpan
 place-number bs (refused q) = refl
 place-number bs (got zero) = refl
 place-number bs (got (suc i)) = refl
 
 -- offset and length in the name's number are those of the name
-pub name-at : (bs : List ℕ) (s b : ℕ) → let w = nameNumber bs (lookup bs s b) in name bs s b ≡ take (w % 65536) (drop (w / 65536) bs)
-name-at bs s b = name-is bs s b ∙ go (lookup bs s b) refl
+pub name-at : (bs : List ℕ) (s b : ℕ) → let w = nameNumber bs (lookup bs s b) in nameAt bs s b ≡ take (w % 65536) (drop (w / 65536) bs)
+unfolding nameAt
+name-at bs s b = go (lookup bs s b) refl
   where
     far : (i : ℕ) → lookup bs s b ≡ got (suc i) → let w = (rowStart bs i + 7) * 65536 + (rowStart bs (suc i) - (rowStart bs i + 7)) in (w % 65536 ≡ rowStart bs (suc i) - (rowStart bs i + 7)) × (w / 65536 ≡ rowStart bs i + 7)
     far i e = omega (arith, name-lies bs s b i e)
 
-    go : (x : Answer ℕ) → lookup bs s b ≡ x → partOf bs (placeOf bs x) ≡ take (nameNumber bs x % 65536) (drop (nameNumber bs x / 65536) bs)
-    go (refused q) e = unfold partOf placeOf nameNumber in refl
-    go (got zero) e = unfold partOf placeOf nameNumber in refl
-    go (got (suc i)) e = unfold partOf placeOf nameNumber part in let f = far i e in rw (f .0, f .1) refl
+    go : (x : Answer ℕ) → lookup bs s b ≡ x → part bs (nameSpan bs x .0) (nameSpan bs x .1) ≡ take (nameNumber bs x % 65536) (drop (nameNumber bs x / 65536) bs)
+    go (refused q) e = unfold part nameSpan nameNumber in refl
+    go (got zero) e = unfold part nameSpan nameNumber in refl
+    go (got (suc i)) e = unfold part nameSpan nameNumber in let f = far i e in rw (f .0, f .1) refl

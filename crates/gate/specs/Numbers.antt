@@ -1,8 +1,10 @@
 -- The numbers that the forms for C give. Assumes nothing.
 use mathlib.Core.List.{List}
-use Prim.Native.Nat.{ℕ, zero, suc, _+_, _-_, _*_}
+use Prim.Native.Nat.{ℕ, _+_, _-_, _*_}
+use lib.Dec.{eqb}
+use Rattle.rules.specs.Basics.{choose}
 use Rattle.rules.specs.Fields.{Answer, refused, got}
-use Rattle.table.specs.Rows.{rowStart}
+use Rattle.rules.specs.Answers.{Outcome, nameSpan}
 use Rattle.table.specs.declared.Verdict.{Verdict}
 use Rattle.table.specs.declared.Verdict.the-variants as verdict
 use Rattle.table.specs.declared.places.Found.{Found}
@@ -29,13 +31,15 @@ placeNumber (place.Refused q) = 0
 
 -- ---- the same of the rules' answers
 
+-- the planner's answer: the length of the table, or 65536 and the number of the refusal
+unfoldable pub planNumber : Outcome → ℕ
+planNumber o = choose (eqb (o .number) 0) (o .length) (65536 + o .number)
+
 -- the lookup's answer: 0 idle, a job number, or 65536 and the number of the refusal
 unfoldable pub lookupNumber : Answer ℕ → ℕ
 lookupNumber (refused q) = 65536 + q
 lookupNumber (got j) = j
 
--- where the name of the job stands that the lookup answers, and its length
+-- where the name stands that the lookup's answer leads to, and its length; 0 where it is empty
 unfoldable pub nameNumber : List ℕ → Answer ℕ → ℕ
-nameNumber bs (refused q) = 0
-nameNumber bs (got zero) = 0
-nameNumber bs (got (suc i)) = (rowStart bs i + 7) * 65536 + (rowStart bs (suc i) - (rowStart bs i + 7))
+nameNumber bs x = let w = nameSpan bs x in w .0 * 65536 + (w .1 - w .0)

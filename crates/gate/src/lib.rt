@@ -1,6 +1,8 @@
-// The public library: the check, the lookup and the name, and the forms of them that C and Rust call.
+// The public library: the planner, the check, the lookup and the name, and the forms of them that C and Rust call.
 //
 // A form for C takes a slice as a pointer and a length, and gives its answer as one number.
+pub use planner::Planned;
+pub use planner::plan;
 pub use table::Found;
 use table::Place;
 pub use table::Verdict;
@@ -9,8 +11,22 @@ pub use table::lookup;
 pub use table::name;
 ghost use mathlib.Core.Path.{_≡_};
 ghost use Rattle.rules.specs.Fields.{numberOf};
-ghost use Rattle.rules.specs.Answers.{check as Answers·check, lookup as Answers·lookup};
-ghost use Rattle.gate.specs.Numbers.{lookupNumber, nameNumber};
+ghost use Rattle.rules.specs.Answers.{plan as Answers·plan, check as Answers·check, lookup as Answers·lookup};
+ghost use Rattle.gate.specs.Numbers.{planNumber, lookupNumber, nameNumber};
+
+// The length of the table; or 65536 and the number of the question that said no.
+#[no_mangle]
+pub extern "C" fn gate_plan(file: &[u8], work: &mut [u8], table: &mut [u8]) -> u32
+    ensures { λ r. ⌜ r ≡ planNumber (Answers·plan (now (file .entry)) (now (work .entry)) (now (table .entry))) ⌝ }
+    ensures { λ _. ⌜ now (work .exit) ≡ Answers·plan (now (file .entry)) (now (work .entry)) (now (table .entry)) .work ⌝ }
+    ensures { λ _. ⌜ now (table .exit) ≡ Answers·plan (now (file .entry)) (now (work .entry)) (now (table .entry)) .table ⌝ }
+{
+    let p = plan(file, work, table);
+    match p {
+        Planned::Table(size) => size as u32,
+        Planned::Refused(number) => 65536 + (number as u32),
+    }
+}
 
 // 0 where the table passes; else the number of the question that said no.
 #[no_mangle]

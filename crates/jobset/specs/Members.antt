@@ -1,18 +1,37 @@
 -- The list of the members of a set, and what a loop over them needs. Assumes nothing.
 use mathlib.Core.Path.{_≡_, refl, sym, ap, _∙_}
 use mathlib.Core.Bool.{Bool, true, false, not, false≢true}
-use mathlib.Core.List.{[], _∷_}
+use mathlib.Core.Logic.{_↔_}
+use mathlib.Core.List.{[], _∷_, List·Memᴰ}
 use Prim.Native.Nat.{ℕ, zero, suc, _+_, _^_, _<_, _≤_}
 use native.Mathlib.Decide.{ℕ-discrete}
 use native.Mathlib.Omega.{arith}
 use borrow.Author.Tests.{eqb-true, not-true, not-false}
 use lib.ListN.{length}
-use Rattle.rules.specs.Basics.{choose}
+use Rattle.rules.specs.Basics.{choose, range, filter}
+use Rattle.laws.specs.Tests.{T-true}
+use Rattle.laws.specs.Counting.{passing, passing-in}
 use Rattle.jobset.specs.declared.Set.{Set}
 use Rattle.jobset.specs.Sets.{member, empty, without, Subset, isEmpty, lowest, membersFrom, members}
 use Rattle.jobset.specs.Membership.{member-empty, without-same, without-other}
 use Rattle.jobset.specs.Order.{greater-iff}
 use Rattle.jobset.specs.Lowest.{below-lowest, lowest-member}
+
+-- the list has the places below 64 that are members
+members-from : (k i : ℕ) (s : Set) → membersFrom k i s ≡ filter (member s) (range k i)
+unfolding membersFrom filter range
+members-from zero i s = refl
+members-from (suc k) i s = rw (members-from k (suc i) s)
+
+pub members-passing : (s : Set) → members s ≡ passing (member s) 64
+unfolding members
+members-passing s = members-from 64 0 s
+
+pub in-members : (s : Set) (j : ℕ) → List·Memᴰ j (members s) ↔ ((j < 64) × (member s j ≡ true))
+in-members s j = rw (members-passing s) (
+  λ m. let w = passing-in (member s) 64 j .0 m in (w .0, T-true (member s j) .0 (w .1)),
+  λ h. passing-in (member s) 64 j .1 (h .0, T-true (member s j) .1 (h .1)),
+)
 
 -- sets with the same members from i up have the same list
 same-from : (k i : ℕ) (s t : Set) → ((j : ℕ) → i ≤ j → member s j ≡ member t j) → membersFrom k i s ≡ membersFrom k i t

@@ -93,9 +93,10 @@ pub swap-gives : (needs : List Need) (g k : ℕ) → Gives (map swap needs) g k 
 unfolding swap
 swap-gives needs g k = (λ m. map-mem⁻¹ (λ d. List·Memᴰ (swap d) needs) swap needs (λ d w. w) (g, k) m, λ m. map-mem swap needs (k, g) m)
 
-swap-chain : (needs : List Need) (a b : ℕ) → Chain (map swap needs) a b → Chain needs b a
-swap-chain needs _ _ (one a b m) = one b a (swap-gives needs a b .0 m)
-swap-chain needs _ _ (more a b c m r) = snoc needs c b a (swap-chain needs b c r) (swap-gives needs a b .0 m)
+-- a chain of needs, read from its end
+pub reversed-chain : (ds es : List Need) → ((g k : ℕ) → Gives ds g k → Gives es k g) → (a b : ℕ) → Chain ds a b → Chain es b a
+reversed-chain ds es f _ _ (one a b m) = one b a (f a b m)
+reversed-chain ds es f _ _ (more a b c m r) = snoc es c b a (reversed-chain ds es f b c r) (f a b m)
 
 module _ (n : ℕ) (needs : List Need) (needs-in : NeedsIn n needs) where
   pub swap-in : NeedsIn n (map swap needs)
@@ -103,7 +104,7 @@ module _ (n : ℕ) (needs : List Need) (needs-in : NeedsIn n needs) where
 
   module _ (free : ¬ (Circle needs)) (L : ℕ) where
     swap-free : ¬ (Circle (map swap needs))
-    swap-free (a, c) = free (a, swap-chain needs a a c)
+    swap-free (a, c) = free (a, reversed-chain (map swap needs) needs (λ g k m. swap-gives needs g k .0 m) a a c)
 
     only : (d : ℕ → ℤ) → ((i : ℕ) → i < n → Formula2 needs L d i) → (f i : ℕ) → i < n → T (marked (rounds n (map swap needs) f) i)
         → d i ≡ pos L -ℤ pos (at (releases n (map swap needs) f) i)

@@ -22,10 +22,11 @@ use Rattle.rules.specs.Boards.{BoardRules, boards}
 use Rattle.rules.specs.Table.{Table, starts, boardsOf, encode}
 use Rattle.rules.specs.Answers.{Outcome, tableOf, tabled, planTable, cleared, written, plan, check}
 use Rattle.laws.specs.Tests.{T-leb, tests, by-choice, choose-yes}
-use Rattle.laws.specs.Fields.{ask-got, after-got, Numbered, numbered-ask, numbered-after}
+use Rattle.laws.specs.Fields.{ask-got, after-got}
 use Rattle.laws.specs.Circles.{circle-free}
 use Rattle.laws.specs.Program.{program-is}
-use Rattle.laws.specs.JobFile.{Readable, readable, read-numbered}
+use Rattle.laws.specs.JobFile.{Readable, readable}
+use Rattle.laws.specs.Refusals.{Refusal, Between, plan-number}
 use Rattle.laws.specs.Best.{Shortest}
 use Rattle.laws.specs.BoardLaws.{boards-rules, boards-least}
 use Rattle.laws.specs.Planned.{refused-13, written-where, written-is, table-ok, rows-count, starts-are, boards-are, table-for, reads-back}
@@ -127,30 +128,25 @@ module _ (file work table : List ℕ) where
   abbrev asked : Answer Table
   asked = after (readFile file) planTable
 
-  asked-numbered : Numbered asked
-  unfolding planTable tabled Numbered
-  asked-numbered = numbered-after (readFile file) planTable (read-numbered file) (λ f.
-      numbered-ask (circleFree (length (f .jobs)) (f .needs)) 11 _ (λ e. omega (arith, e)) (numbered-ask (leb (width (length (f .jobs)) (f .needs) (f .limit)) maxWidth) 12 _ (λ e. omega (arith, e))
-      (found-numbered f (best (length (f .jobs)) (keptb (f .needs)) (f .limit)))))
-    where
-      found-numbered : (f : JobFile) (o : Option (List ℕ)) → Numbered (tabled f o)
-      found-numbered f none = λ e. omega (arith, e)
-      found-numbered f (some t) = tt
-
   -- what holds of each answer: that of refusal 1, of the others, and of each table
-  each-answer : (P : Outcome → Type 0) → P (record { number = 1; length = 0; table = table; work = work }) → ((q : ℕ) → (q ≡ 0 → ⊥) → P (written (refused q) work table))
+  each-answer : (P : Outcome → Type 0) → P (record { number = 1; length = 0; table = table; work = work }) → ((q : ℕ) → Between 2 13 q → P (written (refused q) work table))
       → ((T : Table) → asked ≡ got T → P (written (got T) work table)) → P (plan file work table)
-  unfolding plan Numbered
-  each-answer P one other tabled = by-choice P (leb workSize (length work) && leb tableSize (length table)) (λ _. of asked refl asked-numbered) (λ _. one)
+  unfolding plan Refusal
+  each-answer P one other tabled = by-choice P (leb workSize (length work) && leb tableSize (length table)) (λ _. of asked refl (plan-number file)) (λ _. one)
     where
-      of : (a : Answer Table) → asked ≡ a → Numbered a → P (written a work table)
+      of : (a : Answer Table) → asked ≡ a → Refusal (Between 2 13) a → P (written a work table)
       of (refused q) e m = other q m
       of (got T) e m = tabled T e
+
+  -- "The planner asks 1 to 13": an answer is a table, or the refusal of one of them
+  pub plan-refuses : plan file work table .number ≤ 13
+  unfolding written
+  plan-refuses = each-answer (λ (o : Outcome). o .number ≤ 13) (omega arith) (λ q m. m .1) (λ T e. omega arith)
 
   -- a table has bytes, so no answer is both without a refusal and without a table
   pub table-has-bytes : plan file work table .number ≡ 0 → 0 < plan file work table .length
   unfolding written encode field
-  table-has-bytes = each-answer (λ (o : Outcome). o .number ≡ 0 → 0 < o .length) (λ e. omega (arith, e)) (λ q m e. absurd (m e)) (λ T _ _. omega arith)
+  table-has-bytes = each-answer (λ (o : Outcome). o .number ≡ 0 → 0 < o .length) (λ e. omega (arith, e)) (λ q m e. absurd (omega (arith, m, e))) (λ T _ _. omega arith)
 
   module _ (bytes : Bytes file) where
     -- "The longest table is 1,222 bytes"
@@ -176,7 +172,7 @@ module _ (file work table : List ℕ) where
 
     pub reads-back-passes : plan file work table .number ≡ 0 → ReadsBack (plan file work table)
     unfolding written
-    reads-back-passes = each-answer (λ (o : Outcome). o .number ≡ 0 → ReadsBack o) (λ e. absurd (omega (arith, e))) (λ q m e. absurd (m e)) (λ T e _.
+    reads-back-passes = each-answer (λ (o : Outcome). o .number ≡ 0 → ReadsBack o) (λ e. absurd (omega (arith, e))) (λ q m e. absurd (omega (arith, m, e))) (λ T e _.
         let r = after-got (readFile file) planTable T e in
         let f = r .0 in
         let ok = readable file bytes f (r .1) in

@@ -90,30 +90,3 @@ module _ {A : Type 0} (step : A → ℕ → Answer A) where
       go : (b : Bool) → choose b (after (step s a) (λ t. overFields step k bs (fieldEnd bs a) t)) (got s) ≡ got t → ((u : A) → P u → overFields step k bs (fieldEnd bs a) u ≡ got t → P t) → P t
       go true e r = let w = after-got (step s a) (λ t. overFields step k bs (fieldEnd bs a) t) t e in r (w .0) (keeps s (w .0) a p (w .1)) (w .2)
       go false e r = let q : s ≡ t = cc in subst P q p
-
--- ---- number 0 means that nothing was refused
-
--- no refusal has the number 0
-unfoldable pub Numbered : {A : Type 0} → Answer A → Type 0
-Numbered (refused q) = q ≡ 0 → ⊥
-Numbered (got a) = Unit {0}
-
-pub numbered-got : {A : Type 0} (r : Answer A) → Numbered r → numberOf r ≡ 0 → (a : A) × (r ≡ got a)
-unfolding Numbered numberOf
-numbered-got (refused q) n e = absurd (n e)
-numbered-got (got a) n e = (a, refl)
-
-pub numbered-ask : {A : Type 0} (b : Bool) (q : ℕ) (r : Answer A) → (q ≡ 0 → ⊥) → Numbered r → Numbered (ask b q r)
-unfolding Numbered ask
-numbered-ask true q r n h = h
-numbered-ask false q r n h = n
-
-pub numbered-after : {A B : Type 0} (r : Answer A) (f : A → Answer B) → Numbered r → ((a : A) → Numbered (f a)) → Numbered (after r f)
-unfolding Numbered after
-numbered-after (refused q) f n h = n
-numbered-after (got a) f n h = h a
-
-pub numbered-fields : {A : Type 0} (step : A → ℕ → Answer A) → ((s : A) (a : ℕ) → Numbered (step s a)) → (k : ℕ) (bs : List ℕ) (a : ℕ) (s : A) → Numbered (overFields step k bs a s)
-unfolding overFields Numbered
-numbered-fields step h zero bs a s = tt
-numbered-fields step h (suc k) bs a s = by-choice Numbered (ltb a (length bs)) (λ _. numbered-after (step s a) _ (h s a) (λ t. numbered-fields step h k bs (fieldEnd bs a) t)) (λ _. tt)

@@ -17,7 +17,7 @@ use Rattle.rules.specs.Needs.{Need, Gives, givesb}
 use Rattle.rules.specs.JobFile.{fieldRows, firstRow, fieldRow, Job, JobFile, nameByte, nameOk, knownTag, inPlace, lengthOk, contentOk, counted, withLimit, withJob, withNeed, jobOf, isJob, addNeed, addField, readField, noFields, complete, readFile}
 use Rattle.laws.specs.Tests.{by-choice, T-and, T-all, T-ltb, T-eqb, tests}
 use Rattle.laws.specs.Numbers.{bytes-at, split-word, unsigned-signed}
-use Rattle.laws.specs.Fields.{Numbered, numbered-got, numbered-ask, numbered-after, numbered-fields, ask-got, after-got, bytes-value, overFields-keeps}
+use Rattle.laws.specs.Fields.{ask-got, after-got, bytes-value, overFields-keeps}
 
 -- limit, number of jobs, levels, names and needs are as document 01 says
 pub record Readable (f : JobFile) : Type 0 where
@@ -184,21 +184,3 @@ readable bs b f q =
     done : (g : JobFile) → SoFar g → T (leb 2 (g .fields) && leb 1 (length (g .jobs))) → Readable g
     done g so t = let h = simp tests at t in
         record { limit-in = so .limit-in (h .0); jobs-in = (h .1, so .few); levels-in = so .levels-in; names-in = so .names-in; needs-in = so .needs-in; distinct = so .distinct }
-
--- no refusal of a reading has the number 0
-pub read-numbered : (bs : List ℕ) → Numbered (readFile bs)
-unfolding readFile readField addField addNeed complete Numbered
-read-numbered bs = numbered-ask _ 2 _ (some 1) (numbered-after _ complete (numbered-fields (readField bs) field-numbered (length bs) bs 0 noFields) (λ f. numbered-ask _ 10 _ (some 9) tt))
-  where
-    some : (q : ℕ) → suc q ≡ 0 → ⊥
-    some q z = omega arith
-
-    field-numbered : (f : JobFile) (a : ℕ) → Numbered (readField bs f a)
-    field-numbered f a =
-        numbered-ask _ 3 _ (some 2) (numbered-ask _ 4 _ (some 3) (numbered-ask _ 5 _ (some 4) (numbered-ask _ 6 _ (some 5)
-        (by-choice Numbered (eqb (at bs a) 2) (λ _. tt) (λ _. by-choice Numbered (eqb (at bs a) 3) (λ _. numbered-ask _ 7 _ (some 6) tt)
-        (λ _. by-choice Numbered (eqb (at bs a) 4) (λ _. numbered-ask _ 8 _ (some 7) (numbered-ask _ 9 _ (some 8) tt)) (λ _. tt)))))))
-
--- the number of a reading is 0 just where the file is readable
-pub read-got : (bs : List ℕ) → numberOf (readFile bs) ≡ 0 → (f : JobFile) × (readFile bs ≡ got f)
-read-got bs e = numbered-got (readFile bs) (read-numbered bs) e

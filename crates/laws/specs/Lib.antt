@@ -2,6 +2,7 @@
 pub mod Tests
 pub mod Lists
 pub mod Counting
+pub mod Places
 pub mod Numbers
 pub mod Fields
 pub mod JobFile

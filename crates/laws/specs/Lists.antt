@@ -6,8 +6,8 @@ use mathlib.Core.List.{List, [], _∷_, _++_, map, List·Memᴰ, List·Memᴰ·h
 use Prim.Native.Nat.{ℕ, zero, suc, _+_, _≤_, _<_}
 use native.Mathlib.Omega.{arith}
 use native.Mathlib.Decide.{ℕ-discrete}
-use native.Mathlib.Nat.{add-zero}
-use lib.ListN.{length, getD}
+use native.Mathlib.Nat.{add-zero, zero-add}
+use lib.ListN.{length, getD, replicate}
 use lib.Dec.{T}
 use Rattle.rules.specs.Basics.{choose, at, any, has, filter, range, tabulate}
 use Rattle.laws.specs.Tests.{T-has, by-test}
@@ -114,6 +114,29 @@ unfolding tabulate
 length-tabulate f zero j = refl
 length-tabulate f (suc k) j = ap suc (length-tabulate f k (suc j))
 
+pub tabulate-snoc : {A : Type 0} (f : ℕ → A) (k i : ℕ) → tabulate f (suc k) i ≡ tabulate f k i ++ f (i + k) ∷ []
+unfolding tabulate
+tabulate-snoc f zero i = rw add-zero refl
+tabulate-snoc {A} f (suc k) i = ap (λ (l : List A). f i ∷ l) (tabulate-snoc f k (suc i) ∙ let e : suc i + k ≡ i + suc k = omega arith in rw e refl)
+
+pub tabulate-last : {A : Type 0} (f : ℕ → A) (k : ℕ) → tabulate f (suc k) 0 ≡ tabulate f k 0 ++ f k ∷ []
+tabulate-last f k = tabulate-snoc f k 0 ∙ ap (λ (i : ℕ). tabulate f k 0 ++ f i ∷ []) (zero-add k)
+
+pub tabulate-same : {A : Type 0} (p q : ℕ → A) (k j : ℕ) → ((i : ℕ) → j ≤ i → i < j + k → p i ≡ q i) → tabulate p k j ≡ tabulate q k j
+unfolding tabulate
+tabulate-same p q zero j h = refl
+tabulate-same {A} p q (suc k) j h = ap₂ (λ (x : A) (l : List A). x ∷ l) (h j (omega arith) (omega arith)) (tabulate-same p q k (suc j) (λ i a b. h i (omega arith) (omega arith)))
+
+pub map-tabulate : {A B : Type 0} (g : A → B) (f : ℕ → A) (k i : ℕ) → map g (tabulate f k i) ≡ tabulate (λ j. g (f j)) k i
+unfolding tabulate
+map-tabulate g f zero i = refl
+map-tabulate g f (suc k) i = ap (λ l. g (f i) ∷ l) (map-tabulate g f k (suc i))
+
+pub zeros-at : (n i : ℕ) → at (replicate n 0) i ≡ 0
+zeros-at zero i = refl
+zeros-at (suc n) zero = refl
+zeros-at (suc n) (suc i) = zeros-at n i
+
 -- ---- one entry more at the end
 
 pub any-snoc : {A : Type 0} (p : A → Bool) (xs : List A) (x : A) → any p (xs ++ x ∷ []) ≡ (any p xs || p x)
@@ -127,10 +150,10 @@ nth-mem (x ∷ l) zero z h = List·Memᴰ·head refl
 nth-mem (x ∷ l) (suc i) z h = List·Memᴰ·tail (nth-mem l i z (omega arith))
 
 -- a list that is tabulated through another
-pub map-tabulate : {A : Type 0} (g : A → ℕ) (f : ℕ → A) (l : List ℕ) (k j : ℕ) → length l ≡ k → ((i : ℕ) → g (f (j + i)) ≡ at l i) → map g (tabulate f k j) ≡ l
+pub map-tabulate-list : {A : Type 0} (g : A → ℕ) (f : ℕ → A) (l : List ℕ) (k j : ℕ) → length l ≡ k → ((i : ℕ) → g (f (j + i)) ≡ at l i) → map g (tabulate f k j) ≡ l
 unfolding tabulate
-map-tabulate g f [] zero j e h = refl
-map-tabulate g f [] (suc k) j e h = absurd (omega arith)
-map-tabulate g f (x ∷ l) zero j e h = absurd (omega arith)
-map-tabulate g f (x ∷ l) (suc k) j e h =
-    ap₂ (λ (y : ℕ) (ys : List ℕ). y ∷ ys) (ap (λ (i : ℕ). g (f i)) (omega arith) ∙ h 0) (map-tabulate g f l k (suc j) (omega arith) (λ i. ap (λ (m : ℕ). g (f m)) (omega arith) ∙ h (suc i)))
+map-tabulate-list g f [] zero j e h = refl
+map-tabulate-list g f [] (suc k) j e h = absurd (omega arith)
+map-tabulate-list g f (x ∷ l) zero j e h = absurd (omega arith)
+map-tabulate-list g f (x ∷ l) (suc k) j e h =
+    ap₂ (λ (y : ℕ) (ys : List ℕ). y ∷ ys) (ap (λ (i : ℕ). g (f i)) (omega arith) ∙ h 0) (map-tabulate-list g f l k (suc j) (omega arith) (λ i. ap (λ (m : ℕ). g (f m)) (omega arith) ∙ h (suc i)))

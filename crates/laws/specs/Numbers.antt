@@ -20,6 +20,10 @@ bytes-at [] h i = omega arith
 bytes-at (x ∷ v) h zero = h .0
 bytes-at (x ∷ v) h (suc i) = bytes-at v (h .1) i
 
+pub bytes-all : (v : List ℕ) → ((i : ℕ) → at v i < 256) → Bytes v
+bytes-all [] h = tt
+bytes-all (x ∷ v) h = (h 0, bytes-all v (λ i. h (suc i)))
+
 pub bytes-join : (a b : List ℕ) → Bytes a → Bytes b → Bytes (a ++ b)
 bytes-join [] b h k = k
 bytes-join (x ∷ a) b h k = (h .0, bytes-join a b (h .1) k)

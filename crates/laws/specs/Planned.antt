@@ -20,7 +20,7 @@ use Rattle.rules.specs.Boards.{BoardRules, boards}
 use Rattle.rules.specs.Table.{Row, Table, starts, boardsOf, encode, decode}
 use Rattle.rules.specs.Answers.{tableOf, tabled, planTable}
 use Rattle.laws.specs.Tests.{T-leb, T-eqb}
-use Rattle.laws.specs.Lists.{nth-mem, tabulate-at, length-tabulate, map-tabulate}
+use Rattle.laws.specs.Lists.{nth-mem, tabulate-at, length-tabulate, map-tabulate-list}
 use Rattle.laws.specs.Counting.{at-largest}
 use Rattle.laws.specs.Numbers.{centimetres-in}
 use Rattle.laws.specs.Fields.{ask-yes}
@@ -111,11 +111,11 @@ module _ (f : JobFile) (ok : Readable f) where
 
       pub starts-are : starts (tableOf f t) ≡ t
       unfolding tableOf
-      starts-are = map-tabulate (λ (r : Row). r .start) _ t (length (f .jobs)) 0 (kept .1 .len) (λ i. ap (at t) (omega arith))
+      starts-are = map-tabulate-list (λ (r : Row). r .start) _ t (length (f .jobs)) 0 (kept .1 .len) (λ i. ap (at t) (omega arith))
 
       pub boards-are : boardsOf (tableOf f t) ≡ boards (length (f .jobs)) (f .needs) t
       unfolding tableOf
-      boards-are = map-tabulate (λ (r : Row). r .board) _ (boards (length (f .jobs)) (f .needs) t) (length (f .jobs)) 0 (boards-length (length (f .jobs)) (f .needs) needs-in t (kept .1 .len) (kept .0)) (λ i. ap (at (boards (length (f .jobs)) (f .needs) t)) (omega arith))
+      boards-are = map-tabulate-list (λ (r : Row). r .board) _ (boards (length (f .jobs)) (f .needs) t) (length (f .jobs)) 0 (boards-length (length (f .jobs)) (f .needs) needs-in t (kept .1 .len) (kept .0)) (λ i. ap (at (boards (length (f .jobs)) (f .needs) t)) (omega arith))
 
       pub rows-count : length (tableOf f t .rows) ≡ length (f .jobs)
       unfolding tableOf

@@ -14,7 +14,7 @@ use Rattle.rules.specs.Needs.{Need, Gives, NeedsIn, Circle, marked, rounds}
 use Rattle.rules.specs.Program.{Kept, all₂}
 use Rattle.rules.specs.Windows.{Value1, Formula1, latest, untied, releaseBy, releases, release}
 use Rattle.laws.specs.Tests.{T-eqb, not-all, not-imp, by-choice, tests}
-use Rattle.laws.specs.Lists.{tabulate-at, length-tabulate}
+use Rattle.laws.specs.Lists.{tabulate-at, length-tabulate, zeros-at}
 use Rattle.laws.specs.Circles.{none-marked, giver-first, free-marked}
 
 -- ---- formula (1) by cases
@@ -208,11 +208,6 @@ module _ (n : ℕ) (needs : List Need) (needs-in : NeedsIn n needs) where
 
 -- ---- the lower bound
 
-at-zeros : (n i : ℕ) → at (replicate n 0) i ≡ 0
-at-zeros zero i = refl
-at-zeros (suc n) zero = refl
-at-zeros (suc n) (suc i) = at-zeros n i
-
 module _ (needs : List Need) (τ : ℕ → ℕ) (kept : Kept (Gives needs) τ) where
   case-le : (r : ℕ → ℕ) (i v : ℕ) → ((g : ℕ) → r g ≤ τ g) → Case needs r i v → v ≤ τ i
   case-le r i v h (nobody k e) = omega arith
@@ -226,7 +221,7 @@ module _ (needs : List Need) (τ : ℕ → ℕ) (kept : Kept (Gives needs) τ) w
   -- no job starts before its release, whatever the number f of rounds
   pub release-le : (n f i : ℕ) → at (releases n needs f) i ≤ τ i
   unfolding releases
-  release-le n zero i = rw (at-zeros n i) (omega arith)
+  release-le n zero i = rw (zeros-at n i) (omega arith)
   release-le n (suc f) i = go (decLt i n) (release-le n f)
     where
       go : Dec (i < n) → ((g : ℕ) → at (releases n needs f) g ≤ τ g) → at (releases n needs (suc f)) i ≤ τ i

@@ -14,6 +14,7 @@ use Rattle.rules.specs.Preference.{best}
 use Rattle.laws.specs.Program.{kept-is, fits-slots}
 use Rattle.laws.specs.Preference.{Best}
 use Rattle.laws.specs.Best.{BestWithin-unique, best-is}
+use Rattle.laws.specs.Places.{byPlace}
 use Rattle.jobset.specs.Sets.{empty}
 use Rattle.explore.specs.Model.{Plan, find}
 use Rattle.search.specs.declared.Found.{Found}
@@ -23,7 +24,7 @@ use Rattle.dominance.specs.Count.{countUp, AtLeast, at-least-next, count-best}
 use Rattle.optimal.specs.Given.{Given}
 use Rattle.optimal.specs.Find.{placed, listOf, list-yes, list-no, start-best}
 use Rattle.optimal.specs.PlanSets.{find-proper}
-use Rattle.optimal.specs.Starts.{byPlace, starts-are}
+use Rattle.optimal.specs.Starts.{starts-are}
 
 -- what the search gives for a start list, or where there is none: slots 0 and every start 0
 unfoldable pub answerOf : Option (List ℕ) → Found

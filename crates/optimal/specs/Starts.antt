@@ -9,21 +9,17 @@ use native.Mathlib.Decide.{decLt, ℕ-discrete}
 use lib.ListN.{length, set, length-set, replicate, length-replicate, getD-replicate, List·getD-eq-default}
 use lib.Seq.{ext-getD, getD-set-same, getD-set-other}
 use Rattle.rules.specs.Basics.{at, tabulate}
-use Rattle.laws.specs.Lists.{tabulate-at, length-tabulate}
+use Rattle.laws.specs.Lists.{tabulate-at, length-tabulate, zeros-at}
+use Rattle.laws.specs.Places.{byPlace}
 use Rattle.jobset.specs.declared.Set.{Set}
 use Rattle.jobset.specs.Sets.{member, empty, isEmpty, members}
-use Rattle.jobset.specs.Members.{end}
+use Rattle.jobset.specs.Members.{in-members, end}
 use Rattle.explore.specs.Model.{Plan, written}
-use Rattle.explore.specs.CandidateLaws.{in-members}
 use Rattle.search.specs.Shortest.{startAll, startsTo}
 use Rattle.dominance.specs.Placing.{place, length-place, place-in, place-out}
 use Rattle.optimal.specs.Jobs.{OfJobs, present, jobs, in-jobs}
 use Rattle.optimal.specs.Find.{placed}
 use Rattle.optimal.specs.PlanSets.{Proper}
-
--- the starts of a list by place; 0 where no job stands
-unfoldable pub byPlace : List ℕ → List ℕ
-byPlace t = tabulate (λ p. at t (63 - p)) 64 0
 
 -- ---- one slot
 
@@ -86,17 +82,12 @@ quiet path s (suc k) h =
     let z : at path (s + k) ≡ 0 = h (s + k) (omega arith) (omega arith) in
     rw (q, z, end empty true refl refl .no-members) (quiet path s k (λ y a b. h y a (omega arith)))
 
-zeros : (n y : ℕ) → at (replicate n 0) y ≡ 0
-zeros zero y = refl
-zeros (suc n) zero = refl
-zeros (suc n) (suc y) = zeros n y
-
 length-written : (s : ℕ) (sets l : List ℕ) → length (written s sets l) ≡ length l
 unfolding written
 length-written s [] l = refl
 length-written s (x ∷ sets) l = length-set (written (s + 1) sets l) s x ∙ length-written (s + 1) sets l
 
--- the sets written over zeros
+-- the sets written over zeros-at
 at-written : (s : ℕ) (sets l : List ℕ) → ((y : ℕ) → at l y ≡ 0) → (y : ℕ) → s ≤ y → y < length l → at (written s sets l) y ≡ at sets (y - s)
 unfolding written
 at-written s [] l z y a b = z y
@@ -122,13 +113,13 @@ starts-are n U C plan n-le C-le roof pr len below =
     r = placed n 0 (plan .sets) (replicate n U)
 
     path-at : (y : ℕ) → y < 64 → at path y ≡ at (plan .sets) y
-    path-at y l = let q : y - 0 ≡ y = omega arith in rw q at (at-written 0 (plan .sets) (replicate 64 0) (zeros 64) y (omega arith) (omega (arith, length-replicate {A = ℕ} 64 0)))
+    path-at y l = let q : y - 0 ≡ y = omega arith in rw q at (at-written 0 (plan .sets) (replicate 64 0) (zeros-at 64) y (omega arith) (omega (arith, length-replicate {A = ℕ} 64 0)))
 
     path-from : (y : ℕ) → y < length (plan .sets) → at path (0 + y) ≡ at (plan .sets) y
     path-from y l = let w : 0 + y ≡ y = omega arith in rw w (path-at y (omega (arith, pr .short)))
 
     shows-start : Shows n U (replicate 64 0) (replicate n U)
-    shows-start = record { len = length-replicate {A = ℕ} 64 0; job = λ i h. inr (zeros 64 (63 - i), getD-replicate n i U 0 h); other = λ p h. zeros 64 p }
+    shows-start = record { len = length-replicate {A = ℕ} 64 0; job = λ i h. inr (zeros-at 64 (63 - i), getD-replicate n i U 0 h); other = λ p h. zeros-at 64 p }
 
     past : (l : List ℕ) (y : ℕ) → length l ≤ y → at l y ≡ 0
     past l y h = List·getD-eq-default l 0 {n = y} h

@@ -16,7 +16,9 @@ use Rattle.rules.specs.Windows.{swap, width}
 use Rattle.rules.specs.Answers.{planTable, plan, cleared}
 use Rattle.laws.specs.Tests.{T-true, T-leb, tests, choose-yes, choose-no}
 use Rattle.laws.specs.Fields.{ask-yes, ask-no}
-use Rattle.laws.specs.JobFile.{read-got, readable}
+use Rattle.laws.specs.Numbers.{bytes-all}
+use Rattle.laws.specs.JobFile.{readable}
+use Rattle.laws.specs.Refusals.{read-got}
 use Rattle.laws.specs.Deadlines.{swap-in}
 use Rattle.jobset.specs.Arrays.{GiversAre, TakersAre}
 use Rattle.jobfile.specs.declared.JobFile as reader
@@ -37,11 +39,6 @@ use Rattle.planner.specs.Tabled.{answers-refused}
 
 -- ---- questions 2 to 10
 
--- a list of numbers below 256 is a byte string
-bytes-of : (l : List ℕ) → ((i : ℕ) → at l i < 256) → Bytes l
-bytes-of [] h = tt
-bytes-of (x ∷ l) h = (h 0, bytes-of l (λ i. h (suc i)))
-
 number-refused : {A : Type 0} (r : Answer A) (q : ℕ) → q ≡ numberOf r → (q ≡ 0 → ⊥) → r ≡ refused q
 unfolding numberOf
 number-refused (refused p) q e n = ap refused (sym e)
@@ -57,7 +54,7 @@ module _ (bs : List ℕ) (r : reader.JobFile) (reads : Reads bs r) where
   pub jobs-read : r .number ≡ 0 → ((i : ℕ) → at bs i < 256) → ((p : ℕ) → at (r .givers) p < 2 ^ 64) → JobsRead bs (r .jobs) (r .limit) (r .offsets) (r .givers) (r .takers)
   jobs-read z bytes small =
       let f = read-got bs (sym (reads .number-is) ∙ z) in
-      record { file = f .0; read = f .1; keeps = readable bs (bytes-of bs bytes) (f .0) (f .1); held = reads .held (f .0) (f .1); givers-small = small }
+      record { file = f .0; read = f .1; keeps = readable bs (bytes-all bs bytes) (f .0) (f .1); held = reads .held (f .0) (f .1); givers-small = small }
 
 -- ---- questions 11 and 12
 

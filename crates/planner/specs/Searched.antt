@@ -14,12 +14,12 @@ use Rattle.laws.specs.Tests.{T-true}
 use Rattle.laws.specs.Circles.{circle-free}
 use Rattle.laws.specs.Program.{slots-pos}
 use Rattle.laws.specs.Best.{Shortest, best-found}
+use Rattle.laws.specs.Places.{byPlace}
 use Rattle.search.specs.declared.Found.{Found}
 use Rattle.search.specs.Shortest.{shortest}
 use Rattle.explore.specs.Slot.{tables}
 use Rattle.explore.specs.States.{WellFormed}
 use Rattle.windows.specs.Windows.{fileWindows}
-use Rattle.optimal.specs.Starts.{byPlace}
 use Rattle.optimal.specs.SearchIsBest.{answerOf}
 use Rattle.optimal.specs.OfFile.{file-well-formed, file-is-best}
 use Rattle.planner.specs.Planner.{size, JobsRead, WindowsRead}

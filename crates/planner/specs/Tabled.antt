@@ -17,18 +17,17 @@ use Rattle.rules.specs.Boards.{boards}
 use Rattle.rules.specs.Table.{Row, Table, encode}
 use Rattle.rules.specs.Answers.{tableOf, tabled, planTable, cleared, written}
 use Rattle.laws.specs.Tests.{tests}
-use Rattle.laws.specs.Lists.{nth-mem, tabulate-at}
+use Rattle.laws.specs.Lists.{nth-mem, tabulate-at, tabulate-same}
 use Rattle.laws.specs.Counting.{at-largest}
 use Rattle.laws.specs.Program.{program-is, slots-pos}
 use Rattle.laws.specs.Best.{Shortest, best-found}
 use Rattle.laws.specs.BoardLaws.{boards-length, boards-width}
 use Rattle.laws.specs.Planned.{asked-13, few-boards}
+use Rattle.laws.specs.Places.{by-place-at, byPlace}
 use Rattle.search.specs.declared.Found.{Found}
 use Rattle.boards.specs.declared.Placed.{Placed}
 use Rattle.boards.specs.Placing.{Startable, placed}
-use Rattle.boards.specs.Filled.{by-place-at}
 use Rattle.boards.specs.PlacingLaws.{ArraysHold, rulesPlaced, place-is}
-use Rattle.optimal.specs.Starts.{byPlace}
 use Rattle.optimal.specs.SearchIsBest.{answerOf}
 use Rattle.writer.specs.Written.{rowWith, tableWith, JobFields}
 use Rattle.planner.specs.declared.Planned.the-variants as made
@@ -60,16 +59,6 @@ module _ (bs : List ℕ) (n L : ℕ) (o g t : List ℕ) (j : JobsRead bs n L o g
   job-fields = record { are-whole = λ i h. j .held .offsets-whole i h; long = λ i h. value-size i h .0; short = λ i h. value-size i h .1 }
 
 -- ---- what was found
-
-tabulate-same : {A : Type 0} (p q : ℕ → A) (k j : ℕ) → ((i : ℕ) → j ≤ i → i < j + k → p i ≡ q i) → tabulate p k j ≡ tabulate q k j
-unfolding tabulate
-tabulate-same p q zero j h = refl
-tabulate-same {A} p q (suc k) j h = ap₂ (λ (x : A) (l : List A). x ∷ l) (h j (omega arith) (omega arith)) (tabulate-same p q k (suc j) (λ i a b. h i (omega arith) (omega arith)))
-
--- entry of job i by place
-pub place-at : (t : List ℕ) (i : ℕ) → i < 64 → at (byPlace t) (63 - i) ≡ at t i
-unfolding byPlace
-place-at t i h = let e : 63 - (0 + (63 - i)) ≡ i = omega arith in tabulate-at (λ p. at t (63 - p)) 64 0 (63 - i) 0 (omega arith) ∙ ap (at t) e
 
 module _ (bs : List ℕ) (n L : ℕ) (o g t rel fol : List ℕ) (least : ℕ) (w : WindowsRead bs n L o g t rel fol least) where
   f : JobFile
@@ -121,7 +110,7 @@ module _ (bs : List ℕ) (n L : ℕ) (o g t rel fol : List ℕ) (least : ℕ) (w
       slots-few = omega (arith, c .slots-is, c .short .fits, limit-few bs n L o g t (w .jobs))
 
       start-at : (i : ℕ) → i < size (w .jobs .file) → at (found .starts) (63 - i) ≡ at (c .list) i
-      start-at i h = ap (λ (l : List ℕ). at l (63 - i)) (c .starts-is) ∙ place-at (c .list) i (omega (arith, jobs-few bs n L o g t (w .jobs)))
+      start-at i h = ap (λ (l : List ℕ). at l (63 - i)) (c .starts-is) ∙ by-place-at (c .list) i (omega (arith, jobs-few bs n L o g t (w .jobs)))
 
       -- what the placing asks
       pub startable : Startable (found .starts) n (found .slots)

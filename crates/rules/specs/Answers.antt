@@ -2,20 +2,20 @@
 use mathlib.Core.Bool.{_&&_}
 use mathlib.Core.List.{List, [], _∷_, _++_}
 use mathlib.Core.Option.{Option, none, some}
-use Prim.Native.Nat.{ℕ, zero, suc}
+use Prim.Native.Nat.{ℕ, zero, suc, _+_}
 use lib.ListN.{length, drop, replicate}
 use lib.Dec.{leb, eqb}
 use Rattle.rules.specs.Sizes.{maxJobs, maxLimit, maxWidth, workSize, tableSize}
 use Rattle.rules.specs.Basics.{choose, at, tabulate, largest}
 use Rattle.rules.specs.Numbers.{centimetres}
-use Rattle.rules.specs.Fields.{Answer, refused, got, ask, after}
+use Rattle.rules.specs.Fields.{Answer, refused, got, ask, after, part}
 use Rattle.rules.specs.Needs.{circleFree}
 use Rattle.rules.specs.JobFile.{JobFile, nthJob, readFile}
 use Rattle.rules.specs.Program.{slots, keptb}
 use Rattle.rules.specs.Windows.{width}
 use Rattle.rules.specs.Preference.{best}
 use Rattle.rules.specs.Boards.{boards}
-use Rattle.rules.specs.Table.{Row, Table, nthRow, starts, boardsOf, encode, decode, labelled, sized, apartb, needsKept}
+use Rattle.rules.specs.Table.{Row, Table, rowStart, starts, boardsOf, encode, decode, labelled, sized, apartb, needsKept}
 
 -- ---- the planner
 
@@ -94,14 +94,15 @@ lookupTable table =
 unfoldable pub lookup : List ℕ → ℕ → ℕ → Answer ℕ
 lookup table s b = after (lookupTable table) (λ T. got (jobAt 1 (T .rows) s b))
 
--- "A job's name is handed back as the part of the table that holds it ..; the part is empty if the lookup is idle or refused"
-unfoldable pub named : List Row → ℕ → List ℕ
-named rows zero = []
-named rows (suc i) = nthRow rows i .name
+-- ---- the name
 
-unfoldable pub nameIn : Answer Table → ℕ → ℕ → List ℕ
-nameIn (refused q) s b = []
-nameIn (got T) s b = named (T .rows) (jobAt 1 (T .rows) s b)
+-- "A job's name is handed back as the part of the table that holds it ..; the part is empty if the lookup is idle or refused": where it
+-- begins and before which byte it ends, by the lookup's answer; it stands behind the seven bytes of its row's head, start, board and level
+unfoldable pub nameSpan : List ℕ → Answer ℕ → ℕ × ℕ
+nameSpan table (refused q) = (0, 0)
+nameSpan table (got zero) = (0, 0)
+nameSpan table (got (suc i)) = (rowStart table i + 7, rowStart table (suc i))
 
-unfoldable pub name : List ℕ → ℕ → ℕ → List ℕ
-name table s b = nameIn (lookupTable table) s b
+-- that part: the name in the row of the job (law `name-of-row`)
+unfoldable pub nameAt : List ℕ → ℕ → ℕ → List ℕ
+nameAt table s b = let w = nameSpan table (lookup table s b) in part table (w .0) (w .1)

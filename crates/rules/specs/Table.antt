@@ -1,14 +1,14 @@
 -- The table file: its bytes, its reading, and questions 14 to 18 (document 01, "Job file and table file", "The questions"). Assumes nothing.
 use mathlib.Core.Bool.{Bool, true, false, _&&_}
 use mathlib.Core.List.{List, [], _∷_, _++_, map}
-use Prim.Native.Nat.{ℕ, _+_}
+use Prim.Native.Nat.{ℕ, zero, suc, _+_}
 use lib.ListN.{length, drop, getD}
 use lib.Dec.{leb, eqb}
 use lib.IntN.{ℤ, pos}
 use Rattle.rules.specs.Sizes.{maxBoards}
 use Rattle.rules.specs.Basics.{choose, at, imp, all, range, largest}
 use Rattle.rules.specs.Numbers.{word, low, high, signed, unsigned, eqℤ, centimetres}
-use Rattle.rules.specs.Fields.{Answer, got, ask, after, field, value, whole, overFields}
+use Rattle.rules.specs.Fields.{Answer, got, ask, after, field, fieldEnd, value, whole, overFields}
 use Rattle.rules.specs.Needs.{Need}
 use Rattle.rules.specs.JobFile.{nameOk, Job, nthJob}
 use Rattle.rules.specs.Program.{slots}
@@ -64,6 +64,11 @@ unfoldable pub decode : (ℕ → Bool) → List ℕ → Answer Table
 decode few bs =
     ask (headOk bs) 14 (after (overFields (readRow bs) (length bs) bs 6 []) (λ rows.
     ask (few (length rows)) 14 (got (record { slots = at bs 4; boards = at bs 5; rows = rows }))))
+
+-- where row i begins, from 0: behind the head, or behind the row before
+unfoldable pub rowStart : List ℕ → ℕ → ℕ
+rowStart bs zero = 6
+rowStart bs (suc i) = fieldEnd bs (rowStart bs i)
 
 -- ---- questions 15 to 18
 

@@ -11,20 +11,21 @@ use Rattle.rules.specs.Numbers.{Bytes}
 use Rattle.rules.specs.Fields.{Answer, refused, got, ask, after, numberOf, value, whole}
 use Rattle.rules.specs.Needs.{Need, NeedsIn, circleFree}
 use Rattle.rules.specs.JobFile.{Job, JobFile, nthJob, nameOk, jobOf, readFile}
-use Rattle.rules.specs.Table.{Row, Table, nthRow, starts, boardsOf, rowOf, decode, labelled, sized, apartb, needsKept}
+use Rattle.rules.specs.Table.{Row, Table, nthRow, starts, boardsOf, rowOf, decode, labelled, sized, apartb, needsKept, rowStart}
 use Rattle.rules.specs.Answers.{check}
 use Rattle.laws.specs.Tests.{tests, T-and, T-leb, T-all, bool-ext}
-use Rattle.laws.specs.Lists.{tabulate-at}
+use Rattle.laws.specs.Lists.{nth-mem, tabulate-at}
 use Rattle.laws.specs.Counting.{range-below}
 use Rattle.laws.specs.Fields.{ask-yes, ask-no}
 use Rattle.laws.specs.JobFile.{Readable, readable}
 use Rattle.laws.specs.Check.{q15, q16, q17, q18}
-use Rattle.laws.specs.Refusals.{file-number, not-refused}
+use Rattle.laws.specs.Refusals.{read-got}
+use Rattle.laws.specs.Numbers.{bytes-all}
 use Rattle.jobset.specs.Arrays.{GiversAre}
 use Rattle.jobfile.specs.Reading.{Held, Reads}
 use Rattle.windows.specs.Levels.{levelsOf}
 use Rattle.windows.specs.LevelLaws.{levels-ok}
-use Rattle.table.specs.Rows.{isRow, rowStart, rowNumber, tableOf, Few, Holds, Decodes}
+use Rattle.table.specs.Rows.{isRow, rowNumber, tableOf, Few, Holds, Decodes}
 use Rattle.table.specs.RowWays.{IsRow, row-is}
 use Rattle.table.specs.Questions.{labelledBy, Placed, labelledIn, setsKept}
 use Rattle.table.specs.QuestionLaws.{kept-is}
@@ -34,16 +35,6 @@ use Rattle.table.specs.declared.Verdict.the-variants as verdict
 use Rattle.table.specs.declared.rows.Rows as table-rows
 use Rattle.jobfile.specs.declared.JobFile as code
 use Rattle.windows.specs.declared.JobLevels.{JobLevels}
-
--- a list whose entries are bytes
-bytes-all : (l : List ℕ) → ((i : ℕ) → at l i < 256) → Bytes l
-bytes-all [] h = tt
-bytes-all (x ∷ l) h = (h 0, bytes-all l (λ i. h (suc i)))
-
-nth-mem : {A : Type 0} (l : List A) (d : A) (i : ℕ) → i < length l → List·Memᴰ (getD l i d) l
-nth-mem [] d i h = absurd (omega arith)
-nth-mem (x ∷ l) d zero h = List·Memᴰ·head refl
-nth-mem (x ∷ l) d (suc i) h = List·Memᴰ·tail (nth-mem l d i (omega arith))
 
 all-same : (n : ℕ) (p q : ℕ → Bool) → ((i : ℕ) → i < n → p i ≡ q i) → all p (range n 0) ≡ all q (range n 0)
 all-same n p q h =
@@ -69,7 +60,7 @@ module _ (file table : List ℕ) where
 
     module _ (bytes : (i : ℕ) → at file i < 256) (ok : F .number ≡ 0) where
       file-got : (f : JobFile) × (readFile file ≡ got f)
-      file-got = not-refused (readFile file) (file-number file) (sym (reads .number-is) ∙ ok)
+      file-got = read-got file (sym (reads .number-is) ∙ ok)
 
       f : JobFile
       f = file-got .0
@@ -139,7 +130,7 @@ module _ (file table : List ℕ) where
               pub placed : (i : ℕ) → i < F .jobs → Placed file (at (F .offsets) i) table (at (r .offset) i)
               placed i h = rw (row-held .offsets-are i (omega arith)) record {
                 job-whole = held .offsets-whole i h;
-                job-long = long (value file (at (F .offsets) i)) (rw (held .offsets-are i h) (file-is .names-in (nthJob (f .jobs) i) (nth-mem (f .jobs) _ i (omega (arith, held .jobs-is)))));
+                job-long = long (value file (at (F .offsets) i)) (rw (held .offsets-are i h) (file-is .names-in (nthJob (f .jobs) i) (nth-mem (f .jobs) i _ (omega (arith, held .jobs-is)))));
                 row-whole = row .is-whole;
                 row-long = omega (arith, row .sizes);
               }

@@ -9,11 +9,11 @@ use lib.ListN.{length}
 use lib.Dec.{T, ltb}
 use Rattle.rules.specs.Basics.{choose, at, tabulate}
 use Rattle.rules.specs.Fields.{Answer, refused, got, ask, after, fieldEnd, value, overFields}
-use Rattle.rules.specs.Table.{Row, Table, rowOf, readRow, headOk, decode}
-use Rattle.laws.specs.Lists.{length-tabulate}
+use Rattle.rules.specs.Table.{Row, Table, rowOf, readRow, headOk, decode, rowStart}
+use Rattle.laws.specs.Lists.{length-tabulate, tabulate-last}
 use Rattle.laws.specs.Fields.{ask-got, after-got}
-use Rattle.table.specs.Rows.{isRow, rowStart, rowNumber, tableOf}
-use Rattle.table.specs.RowByRow.{tabulate-last, allRows}
+use Rattle.table.specs.Rows.{isRow, rowNumber, tableOf}
+use Rattle.table.specs.RowByRow.{allRows}
 
 module _ (bs : List ℕ) where
   -- so many rows stand in the bytes

@@ -1,19 +1,19 @@
 -- What check, lookup and name give, for each answer of the rules. Assumes nothing.
 use mathlib.Core.Bool.{_&&_}
 use mathlib.Core.List.{List, [], _∷_}
-use Prim.Native.Nat.{ℕ, zero, suc, _+_}
+use Prim.Native.Nat.{ℕ, zero, suc}
 use lib.ListN.{length}
 use lib.Dec.{eqb}
 use Rattle.rules.specs.Basics.{choose}
 use Rattle.rules.specs.Fields.{Answer, refused, got, part}
 use Rattle.rules.specs.Table.{Table, apartb}
+use Rattle.rules.specs.Answers.{nameSpan}
 use Rattle.table.specs.declared.Verdict.{Verdict}
 use Rattle.table.specs.declared.Verdict.the-variants as verdict
 use Rattle.table.specs.declared.places.Found.{Found}
 use Rattle.table.specs.declared.places.Found.the-variants as found
 use Rattle.table.specs.declared.places.Place.{Place}
 use Rattle.table.specs.declared.places.Place.the-variants as place
-use Rattle.table.specs.Rows.{rowStart}
 use Rattle.table.specs.Questions.{sizedIn}
 
 -- questions 16 and 17 of starts t and boards b: the number of the first that says no, or 0
@@ -37,11 +37,11 @@ foundOf (refused q) = found.Refused q
 foundOf (got zero) = found.Idle
 foundOf (got (suc i)) = found.Job (suc i)
 
--- the same with where the job's name stands: behind the seven bytes of head, start, board and level, to where its row ends
+-- the same with where the job's name stands
 unfoldable pub placeOf : List ℕ → Answer ℕ → Place
 placeOf bs (refused q) = place.Refused q
 placeOf bs (got zero) = place.Idle
-placeOf bs (got (suc i)) = place.Name (suc i) (rowStart bs i + 7) (rowStart bs (suc i))
+placeOf bs (got (suc i)) = let w = nameSpan bs (got (suc i)) in place.Name (suc i) (w .0) (w .1)
 
 -- what a place says of the board: its job
 unfoldable pub jobOf : Place → Found

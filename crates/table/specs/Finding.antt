@@ -9,8 +9,8 @@ use lib.Dec.{T, leb}
 use Rattle.rules.specs.Sizes.{maxJobs, maxLimit}
 use Rattle.rules.specs.Basics.{at}
 use Rattle.rules.specs.Fields.{Answer, refused, got, ask, after, fieldEnd, value}
-use Rattle.rules.specs.Table.{Row, Table, starts, boardsOf, decode, sized, apartb}
-use Rattle.rules.specs.Answers.{jobAt, lookupTable, lookup}
+use Rattle.rules.specs.Table.{Row, Table, starts, boardsOf, decode, sized, apartb, rowStart}
+use Rattle.rules.specs.Answers.{jobAt, lookupTable, lookup, nameSpan}
 use Rattle.laws.specs.Tests.{tests}
 use Rattle.laws.specs.Fields.{ask-yes, ask-no, whole-is, length-value, after-head}
 use Rattle.table.specs.declared.rows.Rows as code
@@ -18,7 +18,7 @@ use Rattle.table.specs.declared.places.Found.{Found}
 use Rattle.table.specs.declared.places.Found.the-variants as found
 use Rattle.table.specs.declared.places.Place.{Place}
 use Rattle.table.specs.declared.places.Place.the-variants as place
-use Rattle.table.specs.Rows.{isRow, rowStart, rowNumber, tableOf, Few, Holds, Decodes}
+use Rattle.table.specs.Rows.{isRow, rowNumber, tableOf, Few, Holds, Decodes}
 use Rattle.table.specs.RowWays.{row-is}
 use Rattle.table.specs.Cells.{rows-length, cells-yes, cells-no}
 use Rattle.table.specs.Lookup.{job-at, job-in}
@@ -80,7 +80,7 @@ module _ (bs : List ℕ) (s b : ℕ) where
             row-ends a e v w = let i = row-is bs a .0 (row-here a e .1) in omega (arith, ap length w, i .sizes, length-value bs a (i .is-whole), whole-is bs a .0 (i .is-whole))
 
             pub found-here : (a : ℕ) → a ≡ at (r .offset) (j - 1) → (v : List ℕ) → v ≡ value bs a → place.Name j (a + 7) (a + 3 + length v) ≡ placeOf bs (lookup bs s b)
-            unfolding placeOf rowStart
+            unfolding placeOf nameSpan rowStart
             found-here a e v w =
                 let p = row-here a e in
                 let i : j ≡ suc (j - 1) = omega arith in
@@ -106,7 +106,7 @@ lies bs s b = go (lookup bs s b) refl
     go : (x : Answer ℕ) → lookup bs s b ≡ x → Lies bs (placeOf bs x)
     go (refused q) e = unfold Lies placeOf in tt
     go (got zero) e = unfold Lies placeOf in tt
-    go (got (suc i)) e = unfold Lies placeOf in name-lies bs s b i e
+    go (got (suc i)) e = unfold Lies placeOf nameSpan in name-lies bs s b i e
 
 pub name-in : (bs : List ℕ) (s b j a e : ℕ) → placeOf bs (lookup bs s b) ≡ place.Name j a e → (a ≤ e) × (e ≤ length bs) × (e ≤ 1222)
 unfolding Lies

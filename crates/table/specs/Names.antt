@@ -1,4 +1,4 @@
--- The name that the rules give is the part of the table that holds it. Assumes nothing.
+-- The part of the table that the rules give as a name is the name in the job's row. Assumes nothing.
 use mathlib.Core.Path.{_≡_, refl, sym, ap, _∙_}
 use mathlib.Core.Bool.{_&&_}
 use mathlib.Core.List.{List, [], _∷_}
@@ -10,13 +10,13 @@ use lib.Dec.{T, leb}
 use Rattle.rules.specs.Sizes.{maxJobs, maxLimit}
 use Rattle.rules.specs.Basics.{tabulate}
 use Rattle.rules.specs.Fields.{Answer, refused, got, ask, after, part, fieldEnd, value}
-use Rattle.rules.specs.Table.{Row, Table, nthRow, starts, boardsOf, rowOf, decode, sized, apartb}
-use Rattle.rules.specs.Answers.{jobAt, lookupTable, lookup, named, nameIn, name}
+use Rattle.rules.specs.Table.{Row, Table, nthRow, starts, boardsOf, rowOf, decode, sized, apartb, rowStart}
+use Rattle.rules.specs.Answers.{jobAt, lookupTable, lookup, nameSpan, nameAt}
 use Rattle.laws.specs.Tests.{T-and, T-leb}
 use Rattle.laws.specs.Lists.{tabulate-at}
 use Rattle.laws.specs.Fields.{ask-got, after-got, whole-is, length-value}
 use Rattle.laws.specs.Check.{decoded-few}
-use Rattle.table.specs.Rows.{isRow, rowStart, rowNumber, tableOf}
+use Rattle.table.specs.Rows.{isRow, rowNumber, tableOf}
 use Rattle.table.specs.RowWays.{IsRow, row-is}
 use Rattle.table.specs.Decoded.{decoded-is}
 use Rattle.table.specs.Lookup.{job-in}
@@ -82,22 +82,21 @@ module _ (bs : List ℕ) (s b : ℕ) where
   pub name-lies : (i : ℕ) → lookup bs s b ≡ got (suc i) → (rowStart bs i + 7 ≤ rowStart bs (suc i)) × (rowStart bs (suc i) ≤ length bs) × (rowStart bs (suc i) ≤ 1222)
   name-lies i e = let w = found-rows i e in let l = row-ends bs i (w .1 i (omega arith)) in omega (arith, l, w .0, rows-near bs (suc i) (w .1))
 
-  pub name-is : name bs s b ≡ partOf bs (placeOf bs (lookup bs s b))
-  unfolding name lookup
-  name-is = go (lookupTable bs) refl
+  pub name-is : nameAt bs s b ≡ partOf bs (placeOf bs (lookup bs s b))
+  unfolding nameAt
+  name-is = go (lookup bs s b)
     where
-      row-name : (t : Table) (i : ℕ) → lookupTable bs ≡ got t → jobAt 1 (t .rows) s b ≡ suc i → nthRow (t .rows) i .name ≡ part bs (rowStart bs i + 7) (rowStart bs (suc i))
-      row-name t i e j =
-          let d = decoded-is bs _ t (lookup-decodes bs t e) in
-          ap (λ (u : Table). nthRow (u .rows) i .name) (d .1) ∙ ap (λ (r : Row). r .name) (entry (length (t .rows)) i (omega (arith, job-in 1 (t .rows) s b i j))) ∙ name-of bs i
-        where
-          entry : (n i : ℕ) → i < n → nthRow (tableOf bs n .rows) i ≡ rowNumber bs i
-          entry n i l = unfold tableOf in tabulate-at (rowNumber bs) n 0 i _ l ∙ let z : 0 + i ≡ i = omega arith in ap (rowNumber bs) z
+      go : (x : Answer ℕ) → part bs (nameSpan bs x .0) (nameSpan bs x .1) ≡ partOf bs (placeOf bs x)
+      go (refused q) = unfold nameSpan placeOf partOf part in refl
+      go (got zero) = unfold nameSpan placeOf partOf part in refl
+      go (got (suc i)) = unfold placeOf partOf in refl
 
-      at-job : (t : Table) (j : ℕ) → lookupTable bs ≡ got t → jobAt 1 (t .rows) s b ≡ j → named (t .rows) j ≡ partOf bs (placeOf bs (got j))
-      at-job t zero e q = unfold named placeOf partOf in refl
-      at-job t (suc i) e q = unfold named placeOf partOf in row-name t i e q
-
-      go : (x : Answer Table) → lookupTable bs ≡ x → nameIn x s b ≡ partOf bs (placeOf bs (after x (λ t. got (jobAt 1 (t .rows) s b))))
-      go (refused q) e = unfold nameIn after placeOf partOf in refl
-      go (got t) e = unfold nameIn after in at-job t (jobAt 1 (t .rows) s b) e refl
+  -- the name is the one in the row of the job that the lookup answers
+  pub name-of-row : (t : Table) (i : ℕ) → lookupTable bs ≡ got t → jobAt 1 (t .rows) s b ≡ suc i → nameAt bs s b ≡ nthRow (t .rows) i .name
+  unfolding nameAt nameSpan lookup after
+  name-of-row t i e j =
+      let d = decoded-is bs _ t (lookup-decodes bs t e) in
+      rw (e, j) (sym (ap (λ (u : Table). nthRow (u .rows) i .name) (d .1) ∙ ap (λ (r : Row). r .name) (entry (length (t .rows)) i (omega (arith, job-in 1 (t .rows) s b i j))) ∙ name-of bs i))
+    where
+      entry : (n i : ℕ) → i < n → nthRow (tableOf bs n .rows) i ≡ rowNumber bs i
+      entry n i l = unfold tableOf in tabulate-at (rowNumber bs) n 0 i _ l ∙ let z : 0 + i ≡ i = omega arith in ap (rowNumber bs) z

@@ -8,10 +8,10 @@ use lib.Dec.{T}
 use Rattle.rules.specs.Basics.{at, tabulate}
 use Rattle.rules.specs.Fields.{Answer, refused, got, ask, after}
 use Rattle.rules.specs.Table.{Row, starts, boardsOf, headOk, decode}
-use Rattle.laws.specs.Lists.{length-tabulate}
+use Rattle.laws.specs.Lists.{length-tabulate, map-tabulate}
 use Rattle.laws.specs.Fields.{ask-yes, ask-no}
 use Rattle.table.specs.Rows.{rowNumber, tableOf, Few, Holds, Decodes}
-use Rattle.table.specs.RowByRow.{map-tabulate, allRows, ReadTo, end-rows}
+use Rattle.table.specs.RowByRow.{allRows, ReadTo, end-rows}
 use Rattle.table.specs.declared.rows.Rows as code
 
 -- the reader refuses

@@ -14,30 +14,15 @@ use Rattle.rules.specs.Sizes.{maxJobs}
 use Rattle.rules.specs.Basics.{at, tabulate}
 use Rattle.rules.specs.Fields.{Answer, refused, got, ask, after, part, fieldEnd, value, whole, overFields}
 use Rattle.rules.specs.JobFile.{nameOk}
-use Rattle.rules.specs.Table.{Row, Table, starts, boardsOf, rowOf, readRow, headOk, decode}
+use Rattle.rules.specs.Table.{Row, Table, starts, boardsOf, rowOf, readRow, headOk, decode, rowStart}
 use Rattle.laws.specs.Tests.{T-false, by-choice}
-use Rattle.laws.specs.Lists.{length-tabulate}
+use Rattle.laws.specs.Lists.{length-tabulate, tabulate-last, map-tabulate}
 use Rattle.laws.specs.Fields.{ask-got, after-got, ask-yes, ask-no, whole-is, after-head, length-value, overFields-step, overFields-end, overFields-keeps}
 use Rattle.laws.specs.Refusals.{Refusal, decode-number}
 use Rattle.table.specs.declared.rows.RowAnswer.{RowAnswer}
 use Rattle.table.specs.declared.rows.RowAnswer.the-variants as answer
-use Rattle.table.specs.Rows.{isRow, rowAnswer, rowStart, rowNumber, tableOf, Few}
+use Rattle.table.specs.Rows.{isRow, rowAnswer, rowNumber, tableOf, Few}
 use Rattle.table.specs.RowWays.{IsRow, row-is}
-
--- ---- lists
-
-tabulate-snoc : {A : Type 0} (f : ℕ → A) (k i : ℕ) → tabulate f (suc k) i ≡ tabulate f k i ++ f (i + k) ∷ []
-unfolding tabulate
-tabulate-snoc f zero i = rw add-zero refl
-tabulate-snoc f (suc k) i = ap (λ l. f i ∷ l) (tabulate-snoc f k (suc i) ∙ let e : suc i + k ≡ i + suc k = omega arith in rw e refl)
-
-pub tabulate-last : {A : Type 0} (f : ℕ → A) (k : ℕ) → tabulate f (suc k) 0 ≡ tabulate f k 0 ++ f k ∷ []
-tabulate-last f k = tabulate-snoc f k 0 ∙ ap (λ i. tabulate f k 0 ++ f i ∷ []) (zero-add k)
-
-pub map-tabulate : {A B : Type 0} (g : A → B) (f : ℕ → A) (k i : ℕ) → map g (tabulate f k i) ≡ tabulate (λ j. g (f j)) k i
-unfolding tabulate
-map-tabulate g f zero i = refl
-map-tabulate g f (suc k) i = ap (λ l. g (f i) ∷ l) (map-tabulate g f k (suc i))
 
 -- byte i of a value
 pub value-byte : (bs : List ℕ) (a i : ℕ) → i < length (value bs a) → T (whole bs a) → at (value bs a) i ≡ at bs (a + 3 + i)

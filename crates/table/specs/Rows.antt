@@ -1,15 +1,15 @@
--- The rows of a table: where each begins, the table that they make, and what the reader of question 14 gives. Assumes nothing.
+-- The rows of a table: the table that they make, and what the reader of question 14 gives. Assumes nothing.
 use mathlib.Core.Path.{_≡_}
 use mathlib.Core.Bool.{Bool, true, false, _&&_}
 use mathlib.Core.List.{List}
-use Prim.Native.Nat.{ℕ, zero, suc, _≤_, _<_}
+use Prim.Native.Nat.{ℕ, _≤_, _<_}
 use lib.ListN.{length, take, drop}
 use lib.Dec.{T, eqb}
 use Rattle.rules.specs.Sizes.{maxJobs}
 use Rattle.rules.specs.Basics.{choose, at, tabulate}
 use Rattle.rules.specs.Fields.{refused, got, ask, fieldEnd, value, whole}
 use Rattle.rules.specs.JobFile.{nameOk}
-use Rattle.rules.specs.Table.{Row, Table, starts, boardsOf, rowOf, decode}
+use Rattle.rules.specs.Table.{Row, Table, starts, boardsOf, rowOf, decode, rowStart}
 use Rattle.table.specs.declared.rows.RowAnswer.{RowAnswer}
 use Rattle.table.specs.declared.rows.RowAnswer.the-variants as answer
 use Rattle.table.specs.declared.rows.Rows as code
@@ -20,11 +20,6 @@ isRow bs a = whole bs a && (eqb (at bs a) 17 && nameOk (drop 4 (value bs a)))
 
 unfoldable pub rowAnswer : List ℕ → ℕ → RowAnswer
 rowAnswer bs a = choose (isRow bs a) (answer.Row (fieldEnd bs a)) answer.Refused
-
--- the offset of row i, from 0: behind the head, or behind the row before
-unfoldable pub rowStart : List ℕ → ℕ → ℕ
-rowStart bs zero = 6
-rowStart bs (suc i) = fieldEnd bs (rowStart bs i)
 
 -- row i
 unfoldable pub rowNumber : List ℕ → ℕ → Row

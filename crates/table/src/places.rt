@@ -11,7 +11,7 @@ ghost use mathlib.Core.Bool.{_&&_};
 ghost use Prim.Native.Nat.{_≤_};
 ghost use lib.ListN.{length, take};
 ghost use lib.Dec.{eqb};
-ghost use Rattle.rules.specs.Answers.{lookup as Answers·lookup, name as Answers·name};
+ghost use Rattle.rules.specs.Answers.{lookup as Answers·lookup, nameAt};
 ghost use Rattle.table.specs.Entries.{cellNumber, jobIn, foundOf, placeOf};
 
 // A job number, from 1; or idle; or the number of the question that said no.
@@ -125,7 +125,7 @@ pub fn lookup(table: &[u8], slot: usize, board: usize) -> Found
 
 // The name of the job on a board in a slot, as the part of the table that holds it; empty where the lookup is idle or refused.
 pub fn name(table: &[u8], slot: usize, board: usize) -> &[u8]
-    ensures { λ r. ⌜ now r ≡ Answers·name (now (table .entry)) slot board ⌝ }
+    ensures { λ r. ⌜ now r ≡ nameAt (now (table .entry)) slot board ⌝ }
 {
     let p = find(table, slot, board);
     match p {

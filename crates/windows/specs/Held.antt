@@ -9,7 +9,7 @@ use Rattle.rules.specs.Windows.{swap}
 use Rattle.laws.specs.Tests.{T-true, bool-ext}
 use Rattle.laws.specs.Program.{gives-is}
 use Rattle.laws.specs.Circles.{snoc, circle-free}
-use Rattle.laws.specs.Deadlines.{swap-gives, swap-in}
+use Rattle.laws.specs.Deadlines.{swap-gives, swap-in, reversed-chain}
 use Rattle.jobset.specs.Sets.{member, setAt}
 use Rattle.jobset.specs.Arrays.{GiversAre, TakersAre}
 
@@ -36,11 +36,6 @@ swap-givesb needs g k = bool-ext (givesb needs g k) (givesb (map swap needs) k g
 -- the takers are the givers of the reversed needs
 pub takers-reversed : (sets : List ℕ) (needs : List Need) → TakersAre sets needs → GiversAre sets (map swap needs)
 takers-reversed sets needs h i j a b = h i j a b ∙ swap-givesb needs i j
-
--- a chain of needs, read from its end
-reversed-chain : (ds es : List Need) → ((g k : ℕ) → Gives ds g k → Gives es k g) → (a b : ℕ) → Chain ds a b → Chain es b a
-reversed-chain ds es f _ _ (one a b m) = one b a (f a b m)
-reversed-chain ds es f _ _ (more a b c m r) = snoc es c b a (reversed-chain ds es f b c r) (f a b m)
 
 -- question 11 has the same answer for the reversed needs
 pub circle-free-reversed : (n : ℕ) (needs : List Need) → NeedsIn n needs → circleFree n (map swap needs) ≡ circleFree n needs

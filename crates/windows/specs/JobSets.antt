@@ -7,14 +7,15 @@ use Prim.Native.Nat.{ℕ, zero, suc, _-_, _≤_, _<_}
 use native.Mathlib.Omega.{arith}
 use native.Mathlib.Decide.{ℕ-discrete}
 use lib.ListN.{length, length-map}
-use Rattle.rules.specs.Basics.{choose, range, filter, count, Distinct}
+use Rattle.rules.specs.Basics.{choose, range, count, Distinct}
 use Rattle.laws.specs.Tests.{T-true}
 use Rattle.laws.specs.Lists.{range-rising, filter-rising, map-mem⁻¹}
 use Rattle.laws.specs.Counting.{rising-distinct, pigeonhole, map-distinct, passing, passing-in, range-below, length-range, count-lt}
 use Rattle.jobset.specs.declared.Set.{Set}
-use Rattle.jobset.specs.Sets.{member, empty, one, union, minus, with, without, Subset, membersFrom, members}
+use Rattle.jobset.specs.Sets.{member, empty, one, union, minus, with, without, Subset, members}
 use Rattle.jobset.specs.Tests.{or-true-iff, not-true-iff, bool-ext}
 use Rattle.jobset.specs.Membership.{member-empty, in-one, in-union, in-minus, without-same}
+use Rattle.jobset.specs.Members.{members-passing, in-members}
 use Rattle.jobset.specs.Inclusion.{subset-antisym, without-subset}
 
 -- the set of the jobs i below n that pass p, each at its place 63 - i
@@ -27,22 +28,6 @@ abbrev pub allJobs : ℕ → Set
 allJobs n = jobsThat (λ i. true) n
 
 -- ---- the list of the members of any set
-
-passing-from : (k i : ℕ) (s : Set) → membersFrom k i s ≡ filter (member s) (range k i)
-unfolding membersFrom filter range
-passing-from zero i s = refl
-passing-from (suc k) i s = rw (passing-from k (suc i) s)
-
--- its entries are the places below 64 that are members
-members-passing : (s : Set) → members s ≡ passing (member s) 64
-unfolding members
-members-passing s = passing-from 64 0 s
-
-pub in-members : (s : Set) (j : ℕ) → List·Memᴰ j (members s) ↔ ((j < 64) × (member s j ≡ true))
-in-members s j = rw (members-passing s) (
-  λ m. let w = passing-in (member s) 64 j .0 m in (w .0, T-true (member s j) .0 (w .1)),
-  λ h. passing-in (member s) 64 j .1 (h .0, T-true (member s j) .1 (h .1)),
-)
 
 pub members-distinct : (s : Set) → Distinct (members s)
 members-distinct s = rw (members-passing s) (rising-distinct (passing (member s) 64) (filter-rising (member s) (range 64 0) (range-rising 64 0)))

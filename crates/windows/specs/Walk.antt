@@ -13,6 +13,7 @@ use Rattle.rules.specs.Needs.{Need, NeedsIn, marked, rounds, circleFree}
 use Rattle.laws.specs.Tests.{T-eqb, T-all, by-choice, choose-no}
 use Rattle.laws.specs.Counting.{range-below}
 use Rattle.laws.specs.Circles.{none-marked, giver-first}
+use Rattle.laws.specs.Lists.{zeros-at}
 use Rattle.jobset.specs.declared.Set.{Set}
 use Rattle.jobset.specs.Sets.{member, setAt, with, without, lowest, isEmpty, Subset, members}
 use Rattle.jobset.specs.Membership.{member-empty, without-other}
@@ -43,11 +44,6 @@ pub record Walk (n : ℕ) (arcs : List ℕ) (left : Set) (level sets : List ℕ)
   pub marks : (needs : List Need) → NeedsIn n needs → GiversAre arcs needs → T (circleFree n needs)
       → (d : ℕ) → d < depth → T (marked (rounds n needs (n - (d + 1))) (63 - at path d))
 
-at-zeros : (n i : ℕ) → at (replicate n 0) i ≡ 0
-at-zeros zero i = refl
-at-zeros (suc n) zero = refl
-at-zeros (suc n) (suc i) = at-zeros n i
-
 -- at the start every job is left, and none is on the path
 pub walk-start : (n : ℕ) (arcs : List ℕ) → n ≤ 64 → allJobs n .bits < 2 ^ 64 → Walk n arcs (allJobs n) (replicate 64 0) (replicate 128 0) 0 (replicate 64 0) 0
 walk-start n arcs n-le b = record {
@@ -63,7 +59,7 @@ walk-start n arcs n-le b = record {
     is-in = λ l p h. (λ m. absurd (none l p m), λ w. absurd (not-done p l w));
     below = λ p l w. absurd (not-done p l w);
   };
-  no-job = λ p h. at-zeros 64 p;
+  no-job = λ p h. zeros-at 64 p;
   levelled = λ needs needs-in held. record {
     closed = λ g k m d. absurd (is-left k (needs-in g k m .1) d);
     uncircled = λ k h d. absurd (is-left k h d);
@@ -79,7 +75,7 @@ walk-start n arcs n-le b = record {
     not-done p l w = false≢true (sym (w .done) ∙ in-jobs (λ i. true) n p n-le .1 (w .is-place, w .is-job, refl))
 
     none : (l p : ℕ) → member (setAt (replicate 128 0) l) p ≡ true → ⊥
-    none l p m = false≢true (sym (member-empty p) ∙ ap (λ (x : ℕ). member (record { bits = x }) p) (sym (at-zeros 128 l)) ∙ m)
+    none l p m = false≢true (sym (member-empty p) ∙ ap (λ (x : ℕ). member (record { bits = x }) p) (sym (zeros-at 128 l)) ∙ m)
 
 module _ {n : ℕ} {arcs : List ℕ} {left : Set} {level sets : List ℕ} {height : ℕ} {path : List ℕ} {depth : ℕ}
     (n-le : n ≤ 64) (w : Walk n arcs left level sets height path depth) where

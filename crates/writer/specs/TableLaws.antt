@@ -11,13 +11,9 @@ use Rattle.rules.specs.Basics.{at, tabulate}
 use Rattle.rules.specs.Numbers.{low, high}
 use Rattle.rules.specs.Fields.{field, value}
 use Rattle.rules.specs.Table.{Row, rowBytes, rowsBytes, encode}
+use Rattle.laws.specs.Lists.{tabulate-snoc}
 use Rattle.writer.specs.Written.{headBytes, rowWith, tableWith, JobFields}
 use Rattle.writer.specs.RowLaws.{row-length, put-behind}
-
-tabulate-snoc : {A : Type 0} (f : ℕ → A) (k j : ℕ) → tabulate f (suc k) j ≡ tabulate f k j ++ f (j + k) ∷ []
-unfolding tabulate
-tabulate-snoc f zero j = let e : j ≡ j + 0 = omega arith in ap (λ (n : ℕ). f n ∷ []) e
-tabulate-snoc {A} f (suc k) j = let e : suc j + k ≡ j + suc k = omega arith in ap (λ (l : List A). f j ∷ l) (tabulate-snoc f k (suc j) ∙ ap (λ (n : ℕ). tabulate f k (suc j) ++ f n ∷ []) e)
 
 rows-snoc : (rs : List Row) (r : Row) → rowsBytes (rs ++ r ∷ []) ≡ rowsBytes rs ++ rowBytes r
 unfolding rowsBytes

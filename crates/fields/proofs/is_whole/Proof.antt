@@ -1,35 +1,26 @@
+-- `fields::is_whole` meets its contract. Assumes nothing.
 use Rattle.fields.specs.Fields.{head-short, whole-by}
 use mathlib.Core.Path.{_∙_}
 use borrow.Author.Needs.{needs}
 use Rattle.fields.proofs.is_whole.Statement.{statement}
 use Rattle.fields.proofs.is_whole.Tie as tie
-use Rattle.fields.proofs.is_whole.Reads as reads
-use Rattle.fields.proofs.is_whole.Lts as lts
-use Rattle.fields.proofs.index.Reads as index-reads
-use Rattle.fields.proofs.word_at.Reads as word-at-reads
 
--- src/lib.rt:35:16
 sub-left : tie.Need-sub-left
 sub-left c = search needs
 
--- src/lib.rt:37:9
 returns : tie.Need-returns
 returns c =
     head-short _ _ (c .before .before .pre) (c .if1 .taken)
 
--- src/lib.rt:39:25
 add-word-at : tie.Need-add-word-at
 add-word-at c = search needs
 
--- src/lib.rt:39:10
 word-at-requires : tie.Need-word-at-requires
 word-at-requires c κs = search needs
 
--- src/lib.rt:39:5
 index-requires : tie.Need-index-requires
 index-requires c κs = search needs
 
--- src/lib.rt:31:1
 returns-2 : tie.Need-returns-2
 returns-2 c =
     whole-by _ _ _ (c .index .ensures ∙ c .before .word-at .ensures) (c .before .before .before .before .pre) (c .before .before .if1 .left)

@@ -1,52 +1,40 @@
+-- `fields::value_at` meets its contract. Assumes nothing.
 use Rattle.fields.specs.Fields.{head-in, value-ends, value-part}
 use native.Mathlib.Omega.{arith}
 use mathlib.Core.Path.{_∙_}
 use borrow.Author.Needs.{needs}
 use Rattle.fields.proofs.value_at.Statement.{statement}
 use Rattle.fields.proofs.value_at.Tie as tie
-use Rattle.fields.proofs.value_at.Reads as reads
-use Rattle.fields.proofs.value_at.Lts as lts
-use Rattle.fields.proofs.index.Reads as index-reads
-use Rattle.fields.proofs.word_at.Reads as word-at-reads
 
--- src/lib.rt:47:17
 add-start : tie.Need-add-start
 add-start c =
     let h = head-in _ _ (c .before .pre) in search needs
 
--- src/lib.rt:48:43
 add-word-at : tie.Need-add-word-at
 add-word-at c =
     let h = head-in _ _ (c .before .pre) in search needs
 
--- src/lib.rt:48:28
 word-at-requires : tie.Need-word-at-requires
 word-at-requires c κs =
     let h = head-in _ _ (c .before .pre) in search needs
 
--- src/lib.rt:48:23
 index-requires : tie.Need-index-requires
 index-requires c κs = search needs
 
--- src/lib.rt:48:15
 add-end : tie.Need-add-end
 add-end c =
     let h = value-ends _ _ _ (c .index .ensures ∙ c .before .word-at .ensures) (c .before .before .before .pre) in search needs
 
--- src/lib.rt:49:5
 sub-result : tie.Need-sub-result
 sub-result c = search needs
 
--- src/lib.rt:49:5
 part-result-start : tie.Need-part-result-start
 part-result-start c = search needs
 
--- src/lib.rt:49:5
 part-result-end : tie.Need-part-result-end
 part-result-end c =
     let h = value-ends _ _ _ (c .index .ensures ∙ c .before .word-at .ensures) (c .before .before .before .pre) in search needs
 
--- src/lib.rt:43:1
 returns : tie.Need-returns
 returns c =
     value-part _ _ _ (c .before .index .ensures ∙ c .before .before .word-at .ensures)

@@ -1,3 +1,4 @@
+-- `files::fill` meets its contract. Assumes nothing.
 use lib.ListN.{take}
 use Prim.Native.Nat.{ℕ}
 use mathlib.Core.List.{List}
@@ -10,10 +11,6 @@ use borrow.Author.Needs.{needs}
 use lib.ListN.{length}
 use Rattle.files.proofs.fill.Statement.{statement}
 use Rattle.files.proofs.fill.Tie as tie
-use Rattle.files.proofs.fill.Reads as reads
-use Rattle.files.proofs.fill.Lts as lts
-use Rattle.io.proofs.count.Reads as count-reads
-use Rattle.libc.proofs.read.Reads as read-reads
 
 abbrev Inv-loop : tie.InvT-loop
 Inv-loop fd buf₀ count₀ buf count =
@@ -26,92 +23,74 @@ abbrev μ-loop : tie.MeasureT-loop
 counts : (n : ℕ) (xs : List ℕ) → n ≤ length xs → (n ≤ length xs) × (n ≡ length (take n xs))
 counts n xs h = (h, sym (length-take-le n xs h))
 
--- src/lib.rt:15:5
 loop-holds : tie.Need-loop-holds Inv-loop μ-loop
 loop-holds c =
     search needs
 
--- src/lib.rt:16:34
 sub-read : tie.Need-sub-read Inv-loop μ-loop
 sub-read c =
     search needs
 
--- src/lib.rt:16:34
 part-read-start : tie.Need-part-read-start Inv-loop μ-loop
 part-read-start c =
     search needs
 
--- src/lib.rt:16:34
 part-read-end : tie.Need-part-read-end Inv-loop μ-loop
 part-read-end c =
     search needs
 
--- src/lib.rt:16:13
 read-requires : tie.Need-read-requires Inv-loop μ-loop
 read-requires c κs =
     search needs
 
--- src/lib.rt:18:13
 same-length : tie.Need-same-length Inv-loop μ-loop
 same-length c =
     search needs
 
--- src/lib.rt:18:13
 returns : tie.Need-returns Inv-loop μ-loop
 returns c =
     search needs
 
--- src/lib.rt:23:35
 sub-count : tie.Need-sub-count Inv-loop μ-loop
 sub-count c =
     search needs
 
--- src/lib.rt:23:35
 part-count-start : tie.Need-part-count-start Inv-loop μ-loop
 part-count-start c =
     search needs
 
--- src/lib.rt:23:35
 part-count-end : tie.Need-part-count-end Inv-loop μ-loop
 part-count-end c =
     search needs
 
--- src/lib.rt:23:13
 count-requires : tie.Need-count-requires Inv-loop μ-loop
 count-requires c κs =
     search needs
 
--- src/lib.rt:25:13
 same-length-2 : tie.Need-same-length-2 Inv-loop μ-loop
 same-length-2 c =
     search needs
 
--- src/lib.rt:25:13
 returns-2 : tie.Need-returns-2 Inv-loop μ-loop
 returns-2 c =
     counts _ _ (search needs)
 
--- src/lib.rt:27:9
 add-count : tie.Need-add-count Inv-loop μ-loop
 add-count c =
     search needs
 
--- src/lib.rt:15:5
 loop-less : tie.Need-loop-less Inv-loop μ-loop
 loop-less c =
     search needs
 
--- src/lib.rt:15:5
 loop-again : tie.Need-loop-again Inv-loop μ-loop
 loop-again c =
     search needs
 
--- src/lib.rt:11:1
 same-length-3 : tie.Need-same-length-3 Inv-loop μ-loop
 same-length-3 c =
     search needs
 
--- src/lib.rt:11:1
 returns-3 : tie.Need-returns-3 Inv-loop μ-loop
 returns-3 c =
     search (needs, counts)

@@ -1,36 +1,28 @@
+-- `gate::gate_check` meets its contract. Assumes nothing.
 use Rattle.gate.specs.Laws.{verdict-number}
 use Rattle.gate.specs.Numbers.{verdictNumber}
 use mathlib.Core.Path.{sym, ap, _∙_}
 use borrow.Author.Needs.{needs}
 use Rattle.gate.proofs.gate_check.Statement.{statement}
 use Rattle.gate.proofs.gate_check.Tie as tie
-use Rattle.gate.proofs.gate_check.Reads as reads
-use Rattle.gate.proofs.gate_check.Lts as lts
-use Rattle.table.proofs.check.Reads as check-reads
 
--- src/lib.rt:20:9
 check-requires : tie.Need-check-requires
 check-requires c κs = search needs
 
--- src/lib.rt:22:28
 enum-told : tie.Need-enum-told
 enum-told c = search needs
 
--- src/lib.rt:23:26
 enum-known-v : tie.Need-enum-known-v
 enum-known-v c = search needs
 
--- src/lib.rt:23:37
 cast-result : tie.Need-cast-result
 cast-result c = search needs
 
--- src/lib.rt:16:1
 returns : tie.Need-returns
 unfolding verdictNumber
 returns c =
     sym (ap verdictNumber (sym (c .before .before .check .ensures) ∙ c .enum-told .given .1)) ∙ verdict-number _
 
--- src/lib.rt:16:1
 returns-2 : tie.Need-returns-2
 unfolding verdictNumber
 returns-2 c =

@@ -1,3 +1,4 @@
+-- `gate::gate_lookup` meets its contract. Assumes nothing.
 use Rattle.gate.specs.Laws.{found-number}
 use Rattle.gate.specs.Numbers.{foundNumber}
 use Rattle.table.specs.Finding.{job-small}
@@ -6,52 +7,39 @@ use mathlib.Core.Path.{sym, ap, _∙_}
 use borrow.Author.Needs.{needs}
 use Rattle.gate.proofs.gate_lookup.Statement.{statement}
 use Rattle.gate.proofs.gate_lookup.Tie as tie
-use Rattle.gate.proofs.gate_lookup.Reads as reads
-use Rattle.gate.proofs.gate_lookup.Lts as lts
-use Rattle.table.proofs.lookup.Reads as lookup-reads
 
--- src/lib.rt:32:9
 lookup-requires : tie.Need-lookup-requires
 lookup-requires c κs = search needs
 
--- src/lib.rt:34:20
 enum-known-f : tie.Need-enum-known-f
 enum-known-f c = search needs
 
--- src/lib.rt:34:28
 cast-result : tie.Need-cast-result
 cast-result c =
     let h = job-small _ _ _ _ (sym (c .before .before .before .lookup .ensures) ∙ c .before .f .given .1) in omega arith
 
--- src/lib.rt:35:24
 enum-told : tie.Need-enum-told
 enum-told c = search needs
 
--- src/lib.rt:36:24
 enum-known-f-2 : tie.Need-enum-known-f-2
 enum-known-f-2 c = search needs
 
--- src/lib.rt:36:44
 cast-result-2 : tie.Need-cast-result-2
 cast-result-2 c = search needs
 
--- src/lib.rt:36:35
 add-result : tie.Need-add-result
 add-result c = search needs
 
--- src/lib.rt:28:1
 returns : tie.Need-returns
 unfolding foundNumber
 returns c =
     sym (ap foundNumber (sym (c .before .before .before .lookup .ensures) ∙ c .before .f .given .1)) ∙ found-number _
 
--- src/lib.rt:28:1
 returns-2 : tie.Need-returns-2
 unfolding foundNumber
 returns-2 c =
     sym (ap foundNumber (sym (c .before .before .lookup .ensures) ∙ c .enum-told .given .1)) ∙ found-number _
 
--- src/lib.rt:28:1
 returns-3 : tie.Need-returns-3
 unfolding foundNumber
 returns-3 c =

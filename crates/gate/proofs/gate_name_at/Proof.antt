@@ -1,3 +1,4 @@
+-- `gate::gate_name_at` meets its contract. Assumes nothing.
 use Rattle.gate.specs.Laws.{place-number}
 use Rattle.gate.specs.Numbers.{placeNumber}
 use Rattle.table.specs.Finding.{name-in}
@@ -6,64 +7,49 @@ use mathlib.Core.Path.{sym, ap, _∙_}
 use borrow.Author.Needs.{needs}
 use Rattle.gate.proofs.gate_name_at.Statement.{statement}
 use Rattle.gate.proofs.gate_name_at.Tie as tie
-use Rattle.gate.proofs.gate_name_at.Reads as reads
-use Rattle.gate.proofs.gate_name_at.Lts as lts
-use Rattle.table.proofs.find.Reads as find-reads
 
--- src/lib.rt:45:9
 find-requires : tie.Need-find-requires
 find-requires c κs = search needs
 
--- src/lib.rt:49:13
 enum-known-p : tie.Need-enum-known-p
 enum-known-p c = search needs
 
--- src/lib.rt:51:15
 cast-result : tie.Need-cast-result
 cast-result c =
     let h = name-in _ _ _ _ _ _ (sym (c .before .before .before .find .ensures) ∙ c .before .p .given .1) in omega arith
 
--- src/lib.rt:51:14
 mul-result : tie.Need-mul-result
 mul-result c =
     let h = name-in _ _ _ _ _ _ (sym (c .before .before .before .find .ensures) ∙ c .before .p .given .1) in omega arith
 
--- src/lib.rt:51:41
 sub-result : tie.Need-sub-result
 sub-result c =
     let h = name-in _ _ _ _ _ _ (sym (c .before .before .before .find .ensures) ∙ c .before .p .given .1) in omega arith
 
--- src/lib.rt:51:40
 cast-result-2 : tie.Need-cast-result-2
 cast-result-2 c =
     let h = name-in _ _ _ _ _ _ (sym (c .before .before .before .find .ensures) ∙ c .before .p .given .1) in omega arith
 
--- src/lib.rt:51:14
 add-result : tie.Need-add-result
 add-result c =
     let h = name-in _ _ _ _ _ _ (sym (c .before .before .before .find .ensures) ∙ c .before .p .given .1) in omega arith
 
--- src/lib.rt:52:24
 enum-told : tie.Need-enum-told
 enum-told c = search needs
 
--- src/lib.rt:53:30
 enum-told-2 : tie.Need-enum-told-2
 enum-told-2 c = search needs
 
--- src/lib.rt:41:1
 returns : tie.Need-returns
 unfolding placeNumber
 returns c =
     sym (ap placeNumber (sym (c .before .before .before .find .ensures) ∙ c .before .p .given .1)) ∙ place-number _ _
 
--- src/lib.rt:41:1
 returns-2 : tie.Need-returns-2
 unfolding placeNumber
 returns-2 c =
     sym (ap placeNumber (sym (c .before .before .find .ensures) ∙ c .enum-told .given .1)) ∙ place-number _ _
 
--- src/lib.rt:41:1
 returns-3 : tie.Need-returns-3
 unfolding placeNumber
 returns-3 c =

@@ -1,12 +1,8 @@
+-- `commands::grid::print_boards` meets its contract. Assumes nothing.
 use borrow.Author.Needs.{needs}
 use Prim.Native.Nat.{_≤_, _-_}
 use Rattle.commands.proofs.grid.print_boards.Statement.{statement}
 use Rattle.commands.proofs.grid.print_boards.Tie as tie
-use Rattle.commands.proofs.grid.print_boards.Reads as reads
-use Rattle.commands.proofs.grid.print_boards.Lts as lts
-use Rattle.commands.proofs.grid.print_blanks.Reads as print-blanks-reads
-use Rattle.io.proofs.print_decimal.Reads as print-decimal-reads
-use Rattle.io.proofs.write_all.Reads as write-all-reads
 
 abbrev Inv-loop : tie.InvT-loop
 Inv-loop boards blanks₀ board₀ t5 t6 blanks board =
@@ -16,67 +12,54 @@ abbrev μ-loop : tie.MeasureT-loop
 μ-loop boards blanks₀ board₀ t5 t6 blanks board =
     boards - board
 
--- src/grid.rt:65:34
 slice-aggregate-write-all : tie.Need-slice-aggregate-write-all Inv-loop μ-loop
 slice-aggregate-write-all c =
     search needs
 
--- src/grid.rt:65:5
 write-all-requires : tie.Need-write-all-requires Inv-loop μ-loop
 write-all-requires c κs =
     search needs
 
--- src/grid.rt:68:5
 loop-holds : tie.Need-loop-holds Inv-loop μ-loop
 loop-holds c =
     search needs
 
--- src/grid.rt:69:9
 add-board : tie.Need-add-board Inv-loop μ-loop
 add-board c =
     search needs
 
--- src/grid.rt:70:9
 print-blanks-requires : tie.Need-print-blanks-requires Inv-loop μ-loop
 print-blanks-requires c κs =
     search needs
 
--- src/grid.rt:71:38
 slice-aggregate-write-all-2 : tie.Need-slice-aggregate-write-all-2 Inv-loop μ-loop
 slice-aggregate-write-all-2 c =
     search needs
 
--- src/grid.rt:71:9
 write-all-requires-2 : tie.Need-write-all-requires-2 Inv-loop μ-loop
 write-all-requires-2 c κs =
     search needs
 
--- src/grid.rt:72:9
 print-decimal-requires : tie.Need-print-decimal-requires Inv-loop μ-loop
 print-decimal-requires c κs =
     search needs
 
--- src/grid.rt:68:5
 loop-less : tie.Need-loop-less Inv-loop μ-loop
 loop-less c =
     search needs
 
--- src/grid.rt:68:5
 loop-again : tie.Need-loop-again Inv-loop μ-loop
 loop-again c =
     search needs
 
--- src/grid.rt:75:34
 slice-aggregate-write-all-3 : tie.Need-slice-aggregate-write-all-3 Inv-loop μ-loop
 slice-aggregate-write-all-3 c =
     search needs
 
--- src/grid.rt:75:5
 write-all-requires-3 : tie.Need-write-all-requires-3 Inv-loop μ-loop
 write-all-requires-3 c κs =
     search needs
 
--- src/grid.rt:64:1
 returns : tie.Need-returns Inv-loop μ-loop
 returns c =
     search needs

@@ -1,3 +1,4 @@
+-- `table::places::cells` meets its contract. Assumes nothing.
 use Rattle.table.specs.Entries.{cellNumber}
 use Rattle.rules.specs.Basics.{choose}
 use lib.Seq.{length-take-le}
@@ -6,73 +7,56 @@ use mathlib.Core.Path.{sym, _∙_}
 use borrow.Author.Needs.{needs}
 use Rattle.table.proofs.places.cells.Statement.{statement}
 use Rattle.table.proofs.places.cells.Tie as tie
-use Rattle.table.proofs.places.cells.Reads as reads
-use Rattle.table.proofs.places.cells.Lts as lts
-use Rattle.table.proofs.questions.apart.Reads as apart-reads
-use Rattle.table.proofs.questions.sized.Reads as sized-reads
 
--- src/places.rt:43:41
 array-share-prefix-start : tie.Need-array-share-prefix-start
 array-share-prefix-start c =
     c .before .before .pre .0
 
--- src/places.rt:43:41
 slice-aggregate-sized : tie.Need-slice-aggregate-sized
 slice-aggregate-sized c =
     sym (length-take-le _ _ (c .before .before .before .pre .0))
 
--- src/places.rt:43:54
 array-share-prefix-board : tie.Need-array-share-prefix-board
 array-share-prefix-board c =
     c .before .before .before .pre .1
 
--- src/places.rt:43:54
 slice-aggregate-sized-2 : tie.Need-slice-aggregate-sized-2
 slice-aggregate-sized-2 c =
     sym (length-take-le _ _ (c .before .before .before .before .pre .1))
 
--- src/places.rt:43:9
 sized-requires : tie.Need-sized-requires
 sized-requires c κs = search needs
 
--- src/places.rt:44:9
 returns : tie.Need-returns
 unfolding cellNumber choose
 returns c =
     simp (sym (c .before .sized .ensures) ∙ not-true _ (c .if1 .taken))
 
--- src/places.rt:46:15
 array-share-prefix-start-2 : tie.Need-array-share-prefix-start-2
 array-share-prefix-start-2 c =
     c .before .before .before .before .before .before .pre .0
 
--- src/places.rt:46:15
 slice-aggregate-apart : tie.Need-slice-aggregate-apart
 slice-aggregate-apart c =
     sym (length-take-le _ _ (c .before .before .before .before .before .before .before .pre .0))
 
--- src/places.rt:46:28
 array-share-prefix-board-2 : tie.Need-array-share-prefix-board-2
 array-share-prefix-board-2 c =
     c .before .before .before .before .before .before .before .pre .1
 
--- src/places.rt:46:28
 slice-aggregate-apart-2 : tie.Need-slice-aggregate-apart-2
 slice-aggregate-apart-2 c =
     sym (length-take-le _ _ (c .before .before .before .before .before .before .before .before .pre .1))
 
--- src/places.rt:46:9
 apart-requires : tie.Need-apart-requires
 apart-requires c κs =
     length-take-le _ _ (c .before .before .before .before .before .before .before .before .pre .1) ∙ sym (length-take-le _ _ (c .before .before .before .before .before .before .before .before .pre .0))
 
--- src/places.rt:47:9
 returns-2 : tie.Need-returns-2
 unfolding cellNumber choose
 returns-2 c =
     simp (sym (c .before .before .before .before .before .sized .ensures) ∙ not-false _ (c .before .before .before .before .if1 .left), sym (c .before .apart .ensures) ∙ not-true _ (c .if2 .taken))
 
--- src/places.rt:36:1
 returns-3 : tie.Need-returns-3
 unfolding cellNumber choose
 returns-3 c =

@@ -1,3 +1,4 @@
+-- `table::places::find` meets its contract. Assumes nothing.
 use Rattle.table.specs.Finding.{not-read, fits, no-rows, bad-cells, idle, row-in, row-here, row-ends, found-here}
 use Rattle.table.specs.RowWays.{row-is}
 use lib.Seq.{length-take-le}
@@ -8,107 +9,80 @@ use mathlib.Core.Path.{_≡_, sym, _∙_}
 use borrow.Author.Needs.{needs}
 use Rattle.table.proofs.places.find.Statement.{statement}
 use Rattle.table.proofs.places.find.Tie as tie
-use Rattle.table.proofs.places.find.Reads as reads
-use Rattle.table.proofs.places.find.Lts as lts
-use Rattle.fields.proofs.index.Reads as index-reads
-use Rattle.fields.proofs.value_at.Reads as value-at-reads
-use Rattle.table.proofs.places.cells.Reads as cells-reads
-use Rattle.table.proofs.places.job_at.Reads as job-at-reads
-use Rattle.table.proofs.rows.read_rows.Reads as read-rows-reads
 
--- src/places.rt:82:9
 read-rows-requires : tie.Need-read-rows-requires
 read-rows-requires c κs = search needs
 
--- src/places.rt:85:9
 returns : tie.Need-returns
 returns c =
     not-read _ _ _ _ (c .before .before .read-rows .ensures) (not-true _ (c .if1 .taken))
 
--- src/places.rt:88:9
 returns-2 : tie.Need-returns-2
 returns-2 c =
     no-rows _ _ _ _ (c .before .before .before .read-rows .ensures) (not-false _ (c .before .if1 .left)) (c .if2 .taken)
 
--- src/places.rt:90:9
 cells-requires : tie.Need-cells-requires
 cells-requires c κs =
     let h = fits _ 0 0 _ (c .before .before .before .read-rows .ensures) (not-false _ (c .before .if1 .left)) in (h .0, h .1)
 
--- src/places.rt:92:9
 returns-3 : tie.Need-returns-3
 returns-3 c =
     bad-cells _ _ _ _ (c .before .before .before .before .before .read-rows .ensures) (not-false _ (c .before .before .before .if1 .left)) (c .before .before .if2 .left) _ (c .before .cells .ensures) (c .if3 .taken)
 
--- src/places.rt:96:22
 array-share-prefix-starts : tie.Need-array-share-prefix-starts
 array-share-prefix-starts c =
     fits _ 0 0 _ (c .before .before .before .before .before .before .before .read-rows .ensures) (not-false _ (c .before .before .before .before .before .if1 .left)) .0
 
--- src/places.rt:96:22
 slice-aggregate-job-at : tie.Need-slice-aggregate-job-at
 slice-aggregate-job-at c =
     sym (length-take-le _ _ (fits _ 0 0 _ (c .before .before .before .before .before .before .before .before .read-rows .ensures) (not-false _ (c .before .before .before .before .before .before .if1 .left)) .0))
 
--- src/places.rt:96:36
 array-share-prefix-boards : tie.Need-array-share-prefix-boards
 array-share-prefix-boards c =
     fits _ 0 0 _ (c .before .before .before .before .before .before .before .before .read-rows .ensures) (not-false _ (c .before .before .before .before .before .before .if1 .left)) .1
 
--- src/places.rt:96:36
 slice-aggregate-job-at-2 : tie.Need-slice-aggregate-job-at-2
 slice-aggregate-job-at-2 c =
     sym (length-take-le _ _ (fits _ 0 0 _ (c .before .before .before .before .before .before .before .before .before .read-rows .ensures) (not-false _ (c .before .before .before .before .before .before .before .if1 .left)) .1))
 
--- src/places.rt:96:9
 job-at-requires : tie.Need-job-at-requires
 job-at-requires c κs =
     let h = fits _ 0 0 _ (c .before .before .before .before .before .before .before .before .before .read-rows .ensures) (not-false _ (c .before .before .before .before .before .before .before .if1 .left)) in length-take-le _ _ (h .1) ∙ sym (length-take-le _ _ (h .0))
 
--- src/places.rt:98:9
 returns-4 : tie.Need-returns-4
 returns-4 c =
     idle _ _ _ _ (c .before .before .before .before .before .before .before .before .before .before .before .read-rows .ensures) (not-false _ (c .before .before .before .before .before .before .before .before .before .if1 .left)) (c .before .before .before .before .before .before .before .before .if2 .left) _ (c .before .before .before .before .before .before .before .cells .ensures) (c .before .before .before .before .before .before .if3 .left) _ (c .before .job-at .ensures) (c .if4 .taken)
 
--- src/places.rt:101:29
 sub-index : tie.Need-sub-index
 sub-index c = search needs
 
--- src/places.rt:101:21
 mul-index : tie.Need-mul-index
 mul-index c =
     let h = row-in _ _ _ _ (c .before .before .before .before .before .before .before .before .before .before .before .before .read-rows .ensures) (not-false _ (c .before .before .before .before .before .before .before .before .before .before .if1 .left)) (c .before .before .before .before .before .before .before .before .before .if2 .left) _ (c .before .before .before .before .before .before .before .before .cells .ensures) (c .before .before .before .before .before .before .before .if3 .left) _ (c .before .before .job-at .ensures) (c .before .if4 .left) in let l = fits _ 0 0 _ (c .before .before .before .before .before .before .before .before .before .before .before .before .read-rows .ensures) (not-false _ (c .before .before .before .before .before .before .before .before .before .before .if1 .left)) in search needs
 
--- src/places.rt:101:21
 array-read-index : tie.Need-array-read-index
 array-read-index c =
     let h = row-in _ _ _ _ (c .before .before .before .before .before .before .before .before .before .before .before .before .read-rows .ensures) (not-false _ (c .before .before .before .before .before .before .before .before .before .before .if1 .left)) (c .before .before .before .before .before .before .before .before .before .if2 .left) _ (c .before .before .before .before .before .before .before .before .cells .ensures) (c .before .before .before .before .before .before .before .if3 .left) _ (c .before .before .job-at .ensures) (c .before .if4 .left) in let l = fits _ 0 0 _ (c .before .before .before .before .before .before .before .before .before .before .before .before .read-rows .ensures) (not-false _ (c .before .before .before .before .before .before .before .before .before .before .if1 .left)) in search needs
 
--- src/places.rt:101:9
 index-requires : tie.Need-index-requires
 index-requires c κs = search needs
 
--- src/places.rt:102:9
 value-at-requires : tie.Need-value-at-requires
 value-at-requires c κs =
     row-is _ _ .0 (row-here _ _ _ _ (c .before .before .before .before .before .before .before .before .before .before .before .before .before .read-rows .ensures) (not-false _ (c .before .before .before .before .before .before .before .before .before .before .before .if1 .left)) (c .before .before .before .before .before .before .before .before .before .before .if2 .left) _ (c .before .before .before .before .before .before .before .before .before .cells .ensures) (c .before .before .before .before .before .before .before .before .if3 .left) _ (c .before .before .before .job-at .ensures) (c .before .before .if4 .left) _ (c .index .ensures) .1) .is-whole
 
--- src/places.rt:105:16
 add-t18 : tie.Need-add-t18
 add-t18 c =
     let h = row-ends _ _ _ _ (c .before .before .before .before .before .before .before .before .before .before .before .before .before .before .read-rows .ensures) (not-false _ (c .before .before .before .before .before .before .before .before .before .before .before .before .if1 .left)) (c .before .before .before .before .before .before .before .before .before .before .before .if2 .left) _ (c .before .before .before .before .before .before .before .before .before .before .cells .ensures) (c .before .before .before .before .before .before .before .before .before .if3 .left) _ (c .before .before .before .before .job-at .ensures) (c .before .before .before .if4 .left) _ (c .before .index .ensures) _ (c .value-at .ensures) in search needs
 
--- src/places.rt:106:14
 add-t19 : tie.Need-add-t19
 add-t19 c =
     let h = row-ends _ _ _ _ (c .before .before .before .before .before .before .before .before .before .before .before .before .before .before .read-rows .ensures) (not-false _ (c .before .before .before .before .before .before .before .before .before .before .before .before .if1 .left)) (c .before .before .before .before .before .before .before .before .before .before .before .if2 .left) _ (c .before .before .before .before .before .before .before .before .before .before .cells .ensures) (c .before .before .before .before .before .before .before .before .before .if3 .left) _ (c .before .before .before .before .job-at .ensures) (c .before .before .before .if4 .left) _ (c .before .index .ensures) _ (c .value-at .ensures) in search needs
 
--- src/places.rt:106:14
 add-t24 : tie.Need-add-t24
 add-t24 c =
     let h = row-ends _ _ _ _ (c .before .before .before .before .before .before .before .before .before .before .before .before .before .before .read-rows .ensures) (not-false _ (c .before .before .before .before .before .before .before .before .before .before .before .before .if1 .left)) (c .before .before .before .before .before .before .before .before .before .before .before .if2 .left) _ (c .before .before .before .before .before .before .before .before .before .before .cells .ensures) (c .before .before .before .before .before .before .before .before .before .if3 .left) _ (c .before .before .before .before .job-at .ensures) (c .before .before .before .if4 .left) _ (c .before .index .ensures) _ (c .value-at .ensures) in search needs
 
--- src/places.rt:79:1
 returns-5 : tie.Need-returns-5
 returns-5 c =
     found-here _ _ _ _ (c .before .before .before .before .before .before .before .before .before .before .before .before .before .before .read-rows .ensures) (not-false _ (c .before .before .before .before .before .before .before .before .before .before .before .before .if1 .left)) (c .before .before .before .before .before .before .before .before .before .before .before .if2 .left) _ (c .before .before .before .before .before .before .before .before .before .before .cells .ensures) (c .before .before .before .before .before .before .before .before .before .if3 .left) _ (c .before .before .before .before .job-at .ensures) (c .before .before .before .if4 .left) _ (c .before .index .ensures) _ (c .value-at .ensures)

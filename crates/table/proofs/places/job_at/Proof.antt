@@ -1,3 +1,4 @@
+-- `table::places::job_at` meets its contract. Assumes nothing.
 use Rattle.table.specs.Lookup.{row-found, row-passed, no-row}
 use Rattle.table.specs.Entries.{jobIn}
 use lib.ListN.{length, drop}
@@ -7,9 +8,6 @@ use Prim.Native.Nat.{_≤_, _-_, _+_}
 use mathlib.Core.Path.{_≡_, refl, sym, _∙_}
 use Rattle.table.proofs.places.job_at.Statement.{statement}
 use Rattle.table.proofs.places.job_at.Tie as tie
-use Rattle.table.proofs.places.job_at.Reads as reads
-use Rattle.table.proofs.places.job_at.Lts as lts
-use Rattle.table.proofs.places.runs_at.Reads as runs-at-reads
 
 abbrev Inv-loop : tie.InvT-loop
 Inv-loop start board s b i₀ i =
@@ -19,47 +17,38 @@ abbrev μ-loop : tie.MeasureT-loop
 μ-loop start board s b i₀ i =
     length start - i
 
--- src/places.rt:68:5
 loop-holds : tie.Need-loop-holds Inv-loop μ-loop
 loop-holds c =
     (omega arith, refl)
 
--- src/places.rt:69:22
 add-number : tie.Need-add-number Inv-loop μ-loop
 add-number c =
     omega arith
 
--- src/places.rt:70:20
 shared-slice-read-runs-at : tie.Need-shared-slice-read-runs-at Inv-loop μ-loop
 shared-slice-read-runs-at c =
     omega arith
 
--- src/places.rt:70:30
 shared-slice-read-runs-at-2 : tie.Need-shared-slice-read-runs-at-2 Inv-loop μ-loop
 shared-slice-read-runs-at-2 c =
     omega arith
 
--- src/places.rt:70:12
 runs-at-requires : tie.Need-runs-at-requires Inv-loop μ-loop
 runs-at-requires c κs =
     search needs
 
--- src/places.rt:71:13
 returns : tie.Need-returns Inv-loop μ-loop
 returns c =
     sym (row-found _ _ _ _ _ (c .before .before .before .before .before .before .before .before .pre) (c .before .before .before .before .loop-test .taken) (sym (c .before .runs-at .ensures) ∙ c .if1 .taken)) ∙ c .before .before .before .before .before .loop .inv .1
 
--- src/places.rt:68:5
 loop-less : tie.Need-loop-less Inv-loop μ-loop
 loop-less c =
     omega arith
 
--- src/places.rt:68:5
 loop-again : tie.Need-loop-again Inv-loop μ-loop
 loop-again c =
     (omega arith, sym (row-passed _ _ _ _ _ (c .before .before .before .before .before .before .before .before .pre) (c .before .before .before .before .loop-test .taken) (sym (c .before .runs-at .ensures) ∙ c .if1 .left)) ∙ c .before .before .before .before .before .loop .inv .1)
 
--- src/places.rt:63:1
 returns-2 : tie.Need-returns-2 Inv-loop μ-loop
 returns-2 c =
     sym (no-row _ _ _ _ _ (c .before .before .before .before .pre) (c .loop-test .left)) ∙ c .before .loop .inv .1

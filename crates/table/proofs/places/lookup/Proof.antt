@@ -1,42 +1,33 @@
+-- `table::places::lookup` meets its contract. Assumes nothing.
 use Rattle.table.specs.Finding.{job-found}
 use Rattle.table.specs.Entries.{jobOf}
 use mathlib.Core.Path.{sym, ap, _∙_}
 use borrow.Author.Needs.{needs}
 use Rattle.table.proofs.places.lookup.Statement.{statement}
 use Rattle.table.proofs.places.lookup.Tie as tie
-use Rattle.table.proofs.places.lookup.Reads as reads
-use Rattle.table.proofs.places.lookup.Lts as lts
-use Rattle.table.proofs.places.find.Reads as find-reads
 
--- src/places.rt:114:9
 find-requires : tie.Need-find-requires
 find-requires c κs = search needs
 
--- src/places.rt:117:13
 enum-known-p : tie.Need-enum-known-p
 enum-known-p c = search needs
 
--- src/places.rt:121:24
 enum-told : tie.Need-enum-told
 enum-told c = search needs
 
--- src/places.rt:122:24
 enum-known-p-2 : tie.Need-enum-known-p-2
 enum-known-p-2 c = search needs
 
--- src/places.rt:111:1
 returns : tie.Need-returns
 unfolding jobOf
 returns c =
     sym (ap jobOf (sym (c .before .before .before .find .ensures) ∙ c .before .p .given .1)) ∙ job-found _ _
 
--- src/places.rt:111:1
 returns-2 : tie.Need-returns-2
 unfolding jobOf
 returns-2 c =
     sym (ap jobOf (sym (c .before .before .find .ensures) ∙ c .enum-told .given .1)) ∙ job-found _ _
 
--- src/places.rt:111:1
 returns-3 : tie.Need-returns-3
 unfolding jobOf
 returns-3 c =

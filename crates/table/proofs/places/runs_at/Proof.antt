@@ -1,26 +1,20 @@
+-- `table::places::runs_at` meets its contract. Assumes nothing.
 use borrow.Author.Tests.{eq-eqb, ne-eqb}
 use mathlib.Core.Path.{sym, ap, _∙_}
 use borrow.Author.Needs.{needs}
 use Rattle.table.proofs.places.runs_at.Statement.{statement}
 use Rattle.table.proofs.places.runs_at.Tie as tie
-use Rattle.table.proofs.places.runs_at.Reads as reads
-use Rattle.table.proofs.places.runs_at.Lts as lts
-use Rattle.fields.proofs.wide.Reads as wide-reads
 
--- src/places.rt:56:8
 wide-requires : tie.Need-wide-requires
 wide-requires c κs = search needs
 
--- src/places.rt:57:9
 returns : tie.Need-returns
 returns c =
     simp (ne-eqb _ _ (λ e. c .if1 .taken (c .before .wide .ensures ∙ e)))
 
--- src/places.rt:59:5
 wide-requires-2 : tie.Need-wide-requires-2
 wide-requires-2 c κs = search needs
 
--- src/places.rt:53:1
 returns-2 : tie.Need-returns-2
 returns-2 c =
     simp (eq-eqb _ _ (sym (c .before .before .wide .ensures) ∙ c .before .if1 .left), c .wide2 .ensures)

@@ -1,3 +1,4 @@
+-- `table::questions::all_positive` meets its contract. Assumes nothing.
 use Rattle.table.specs.Loops.{positive-no, positive-yes, positive-end}
 use Rattle.rules.specs.Basics.{all}
 use lib.Dec.{leb}
@@ -7,8 +8,6 @@ use Prim.Native.Nat.{_≤_, _-_}
 use mathlib.Core.Path.{_≡_, refl, sym, _∙_}
 use Rattle.table.proofs.questions.all_positive.Statement.{statement}
 use Rattle.table.proofs.questions.all_positive.Tie as tie
-use Rattle.table.proofs.questions.all_positive.Reads as reads
-use Rattle.table.proofs.questions.all_positive.Lts as lts
 
 abbrev Inv-loop : tie.InvT-loop
 Inv-loop list i₀ i =
@@ -18,37 +17,30 @@ abbrev μ-loop : tie.MeasureT-loop
 μ-loop list i₀ i =
     length list - i
 
--- src/questions.rt:104:5
 loop-holds : tie.Need-loop-holds Inv-loop μ-loop
 loop-holds c =
     (omega arith, refl)
 
--- src/questions.rt:105:12
 shared-slice-read-if1 : tie.Need-shared-slice-read-if1 Inv-loop μ-loop
 shared-slice-read-if1 c =
     omega arith
 
--- src/questions.rt:106:13
 returns : tie.Need-returns Inv-loop μ-loop
 returns c =
     sym (positive-no _ _ (c .before .before .loop-test .taken) (c .if1 .taken)) ∙ c .before .before .before .loop .inv .1
 
--- src/questions.rt:108:9
 add-i : tie.Need-add-i Inv-loop μ-loop
 add-i c =
     omega arith
 
--- src/questions.rt:104:5
 loop-less : tie.Need-loop-less Inv-loop μ-loop
 loop-less c =
     omega arith
 
--- src/questions.rt:104:5
 loop-again : tie.Need-loop-again Inv-loop μ-loop
 loop-again c =
     (omega arith, sym (positive-yes _ _ (c .before .before .loop-test .taken) (c .if1 .left)) ∙ c .before .before .before .loop .inv .1)
 
--- src/questions.rt:100:1
 returns-2 : tie.Need-returns-2 Inv-loop μ-loop
 returns-2 c =
     sym (positive-end _ _ (c .loop-test .left)) ∙ c .before .loop .inv .1

@@ -1,3 +1,4 @@
+-- `table::questions::apart` meets its contract. Assumes nothing.
 use Rattle.table.specs.Loops.{allFrom, all-start, all-no, all-yes, all-end}
 use Rattle.table.specs.QuestionLaws.{apart-is}
 use Rattle.table.specs.Questions.{shared}
@@ -10,9 +11,6 @@ use mathlib.Core.Bool.{not}
 use mathlib.Core.Path.{_≡_, sym, ap, _∙_}
 use Rattle.table.proofs.questions.apart.Statement.{statement}
 use Rattle.table.proofs.questions.apart.Tie as tie
-use Rattle.table.proofs.questions.apart.Reads as reads
-use Rattle.table.proofs.questions.apart.Lts as lts
-use Rattle.table.proofs.questions.is_shared.Reads as is-shared-reads
 
 abbrev Inv-loop : tie.InvT-loop
 Inv-loop start board i₀ i =
@@ -22,37 +20,30 @@ abbrev μ-loop : tie.MeasureT-loop
 μ-loop start board i₀ i =
     length start - i
 
--- src/questions.rt:162:5
 loop-holds : tie.Need-loop-holds Inv-loop μ-loop
 loop-holds c =
     (omega arith, all-start _ _ ∙ apart-is _ _ _)
 
--- src/questions.rt:163:12
 is-shared-requires : tie.Need-is-shared-requires Inv-loop μ-loop
 is-shared-requires c κs =
     search needs
 
--- src/questions.rt:164:13
 returns : tie.Need-returns Inv-loop μ-loop
 returns c =
     sym (all-no _ _ _ (c .before .before .loop-test .taken) (ap not (sym (c .before .is-shared .ensures) ∙ c .if1 .taken))) ∙ c .before .before .before .loop .inv .1
 
--- src/questions.rt:166:9
 add-i : tie.Need-add-i Inv-loop μ-loop
 add-i c =
     omega arith
 
--- src/questions.rt:162:5
 loop-less : tie.Need-loop-less Inv-loop μ-loop
 loop-less c =
     omega arith
 
--- src/questions.rt:162:5
 loop-again : tie.Need-loop-again Inv-loop μ-loop
 loop-again c =
     (omega arith, sym (all-yes _ _ _ (c .before .before .loop-test .taken) (ap not (sym (c .before .is-shared .ensures) ∙ c .if1 .left))) ∙ c .before .before .before .loop .inv .1)
 
--- src/questions.rt:157:1
 returns-2 : tie.Need-returns-2 Inv-loop μ-loop
 returns-2 c =
     sym (all-end _ _ _ (c .loop-test .left)) ∙ c .before .loop .inv .1

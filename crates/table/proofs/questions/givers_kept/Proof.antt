@@ -1,3 +1,4 @@
+-- `table::questions::givers_kept` meets its contract. Assumes nothing.
 use Rattle.table.specs.Loops.{allFrom, all-start, all-no, all-yes, all-end}
 use Rattle.table.specs.Questions.{needKept, giversKept}
 use lib.ListN.{length}
@@ -8,9 +9,6 @@ use Prim.Native.Nat.{_≤_, _-_}
 use mathlib.Core.Path.{_≡_, sym, _∙_}
 use Rattle.table.proofs.questions.givers_kept.Statement.{statement}
 use Rattle.table.proofs.questions.givers_kept.Tie as tie
-use Rattle.table.proofs.questions.givers_kept.Reads as reads
-use Rattle.table.proofs.questions.givers_kept.Lts as lts
-use Rattle.table.proofs.questions.need_kept.Reads as need-kept-reads
 
 abbrev Inv-loop : tie.InvT-loop
 Inv-loop givers start board taker giver₀ giver =
@@ -20,38 +18,31 @@ abbrev μ-loop : tie.MeasureT-loop
 μ-loop givers start board taker giver₀ giver =
     length start - giver
 
--- src/questions.rt:203:5
 loop-holds : tie.Need-loop-holds Inv-loop μ-loop
 unfolding giversKept
 loop-holds c =
     (omega arith, all-start _ _)
 
--- src/questions.rt:204:13
 need-kept-requires : tie.Need-need-kept-requires Inv-loop μ-loop
 need-kept-requires c κs =
     search needs
 
--- src/questions.rt:205:13
 returns : tie.Need-returns Inv-loop μ-loop
 returns c =
     sym (all-no _ _ _ (c .before .before .loop-test .taken) (sym (c .before .need-kept .ensures) ∙ not-true _ (c .if1 .taken))) ∙ c .before .before .before .loop .inv .1
 
--- src/questions.rt:207:9
 add-giver : tie.Need-add-giver Inv-loop μ-loop
 add-giver c =
     omega arith
 
--- src/questions.rt:203:5
 loop-less : tie.Need-loop-less Inv-loop μ-loop
 loop-less c =
     omega arith
 
--- src/questions.rt:203:5
 loop-again : tie.Need-loop-again Inv-loop μ-loop
 loop-again c =
     (omega arith, sym (all-yes _ _ _ (c .before .before .loop-test .taken) (sym (c .before .need-kept .ensures) ∙ not-false _ (c .if1 .left))) ∙ c .before .before .before .loop .inv .1)
 
--- src/questions.rt:198:1
 returns-2 : tie.Need-returns-2 Inv-loop μ-loop
 returns-2 c =
     sym (all-end _ _ _ (c .loop-test .left)) ∙ c .before .loop .inv .1

@@ -1,3 +1,4 @@
+-- `table::questions::is_late` meets its contract. Assumes nothing.
 use Rattle.table.specs.Questions.{lateEnough}
 use Rattle.rules.specs.Basics.{choose}
 use borrow.Author.Tests.{eq-eqb, ne-eqb}
@@ -5,51 +6,38 @@ use native.Mathlib.Omega.{arith}
 use borrow.Author.Needs.{needs}
 use Rattle.table.proofs.questions.is_late.Statement.{statement}
 use Rattle.table.proofs.questions.is_late.Tie as tie
-use Rattle.table.proofs.questions.is_late.Reads as reads
-use Rattle.table.proofs.questions.is_late.Lts as lts
-use Rattle.fields.proofs.wide.Reads as wide-reads
 
--- src/questions.rt:178:23
 shared-slice-read-wide : tie.Need-shared-slice-read-wide
 shared-slice-read-wide c = search needs
 
--- src/questions.rt:178:9
 wide-requires : tie.Need-wide-requires
 wide-requires c κs = search needs
 
--- src/questions.rt:179:22
 shared-slice-read-wide-2 : tie.Need-shared-slice-read-wide-2
 shared-slice-read-wide-2 c = search needs
 
--- src/questions.rt:179:9
 wide-requires-2 : tie.Need-wide-requires-2
 wide-requires-2 c κs = search needs
 
--- src/questions.rt:180:8
 shared-slice-read-if1 : tie.Need-shared-slice-read-if1
 shared-slice-read-if1 c = search needs
 
--- src/questions.rt:180:24
 shared-slice-read-if1-2 : tie.Need-shared-slice-read-if1-2
 shared-slice-read-if1-2 c = search needs
 
--- src/questions.rt:181:16
 add-result : tie.Need-add-result
 add-result c =
     omega (arith, c .before .before .before .before .before .wide .ensures, c .before .before .before .before .before .before .shared-slice-known3 .given (c .before .before .before .before .before .before .before .before .before .args .giver))
 
--- src/questions.rt:181:9
 returns : tie.Need-returns
 unfolding lateEnough choose
 returns c =
     simp (eq-eqb _ _ (c .if1 .taken), c .before .before .before .before .before .wide .ensures, c .before .before .before .wide2 .ensures)
 
--- src/questions.rt:183:5
 add-result-2 : tie.Need-add-result-2
 add-result-2 c =
     omega (arith, c .before .before .before .before .before .wide .ensures, c .before .before .before .before .before .before .shared-slice-known3 .given (c .before .before .before .before .before .before .before .before .before .args .giver))
 
--- src/questions.rt:174:1
 returns-2 : tie.Need-returns-2
 unfolding lateEnough choose
 returns-2 c =

@@ -1,3 +1,4 @@
+-- `table::questions::is_shared` meets its contract. Assumes nothing.
 use Rattle.table.specs.Loops.{anyFrom, any-start, any-yes, any-no, any-end}
 use Rattle.table.specs.Questions.{sameCell, shared}
 use borrow.Author.Needs.{needs}
@@ -6,9 +7,6 @@ use Prim.Native.Nat.{_≤_, _-_}
 use mathlib.Core.Path.{_≡_, sym, _∙_}
 use Rattle.table.proofs.questions.is_shared.Statement.{statement}
 use Rattle.table.proofs.questions.is_shared.Tie as tie
-use Rattle.table.proofs.questions.is_shared.Reads as reads
-use Rattle.table.proofs.questions.is_shared.Lts as lts
-use Rattle.table.proofs.questions.same_cell.Reads as same-cell-reads
 
 abbrev Inv-loop : tie.InvT-loop
 Inv-loop start board i j₀ j =
@@ -18,38 +16,31 @@ abbrev μ-loop : tie.MeasureT-loop
 μ-loop start board i j₀ j =
     i - j
 
--- src/questions.rt:147:5
 loop-holds : tie.Need-loop-holds Inv-loop μ-loop
 unfolding shared
 loop-holds c =
     (omega arith, any-start _ _)
 
--- src/questions.rt:148:12
 same-cell-requires : tie.Need-same-cell-requires Inv-loop μ-loop
 same-cell-requires c κs =
     search needs
 
--- src/questions.rt:149:13
 returns : tie.Need-returns Inv-loop μ-loop
 returns c =
     sym (any-yes _ _ _ (c .before .before .loop-test .taken) (sym (c .before .same-cell .ensures) ∙ c .if1 .taken)) ∙ c .before .before .before .loop .inv .1
 
--- src/questions.rt:151:9
 add-j : tie.Need-add-j Inv-loop μ-loop
 add-j c =
     omega arith
 
--- src/questions.rt:147:5
 loop-less : tie.Need-loop-less Inv-loop μ-loop
 loop-less c =
     omega arith
 
--- src/questions.rt:147:5
 loop-again : tie.Need-loop-again Inv-loop μ-loop
 loop-again c =
     (omega arith, sym (any-no _ _ _ (c .before .before .loop-test .taken) (sym (c .before .same-cell .ensures) ∙ c .if1 .left)) ∙ c .before .before .before .loop .inv .1)
 
--- src/questions.rt:142:1
 returns-2 : tie.Need-returns-2 Inv-loop μ-loop
 returns-2 c =
     sym (any-end _ _ _ (c .loop-test .left)) ∙ c .before .loop .inv .1

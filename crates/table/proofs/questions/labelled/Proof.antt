@@ -1,3 +1,4 @@
+-- `table::questions::labelled` meets its contract. Assumes nothing.
 use Rattle.table.specs.Loops.{allFrom, all-start, all-no, all-yes, all-end}
 use Rattle.table.specs.Questions.{labelledBy, labelledIn}
 use Rattle.rules.specs.Fields.{value}
@@ -9,11 +10,6 @@ use Prim.Native.Nat.{_≤_, _-_}
 use mathlib.Core.Path.{_≡_, sym, ap, ap₂, _∙_}
 use Rattle.table.proofs.questions.labelled.Statement.{statement}
 use Rattle.table.proofs.questions.labelled.Tie as tie
-use Rattle.table.proofs.questions.labelled.Reads as reads
-use Rattle.table.proofs.questions.labelled.Lts as lts
-use Rattle.fields.proofs.index.Reads as index-reads
-use Rattle.fields.proofs.value_at.Reads as value-at-reads
-use Rattle.table.proofs.questions.labelled_row.Reads as labelled-row-reads
 
 abbrev Inv-loop : tie.InvT-loop
 Inv-loop file jobs table rows count i₀ i =
@@ -23,78 +19,63 @@ abbrev μ-loop : tie.MeasureT-loop
 μ-loop file jobs table rows count i₀ i =
     count - i
 
--- src/questions.rt:57:5
 loop-holds : tie.Need-loop-holds Inv-loop μ-loop
 unfolding labelledIn
 loop-holds c =
     (omega arith, all-start _ _)
 
--- src/questions.rt:58:40
 mul-index : tie.Need-mul-index Inv-loop μ-loop
 mul-index c =
     search needs
 
--- src/questions.rt:58:40
 element-copy-out-index : tie.Need-element-copy-out-index Inv-loop μ-loop
 element-copy-out-index c =
     search needs
 
--- src/questions.rt:58:34
 index-requires : tie.Need-index-requires Inv-loop μ-loop
 index-requires c κs =
     search needs
 
--- src/questions.rt:58:13
 value-at-requires : tie.Need-value-at-requires Inv-loop μ-loop
 value-at-requires c κs =
     rw (c .index .ensures) (c .before .before .before .before .before .before .pre .1 _ (c .before .before .loop-test .taken) .job-whole)
 
--- src/questions.rt:59:41
 mul-index-2 : tie.Need-mul-index-2 Inv-loop μ-loop
 mul-index-2 c =
     search needs
 
--- src/questions.rt:59:41
 element-copy-out-index-2 : tie.Need-element-copy-out-index-2 Inv-loop μ-loop
 element-copy-out-index-2 c =
     search needs
 
--- src/questions.rt:59:35
 index-requires-2 : tie.Need-index-requires-2 Inv-loop μ-loop
 index-requires-2 c κs =
     search needs
 
--- src/questions.rt:59:13
 value-at-requires-2 : tie.Need-value-at-requires-2 Inv-loop μ-loop
 value-at-requires-2 c κs =
     rw (c .index2 .ensures) (c .before .before .before .before .before .before .before .before .before .pre .1 _ (c .before .before .before .before .before .loop-test .taken) .row-whole)
 
--- src/questions.rt:60:13
 labelled-row-requires : tie.Need-labelled-row-requires Inv-loop μ-loop
 labelled-row-requires c κs =
     rw (c .value-at2 .ensures, c .before .index2 .ensures, c .before .before .before .value-at .ensures, c .before .before .before .before .index .ensures) (let p = c .before .before .before .before .before .before .before .before .before .before .pre .1 _ (c .before .before .before .before .before .before .loop-test .taken) in (p .job-long, p .row-long))
 
--- src/questions.rt:61:13
 returns : tie.Need-returns Inv-loop μ-loop
 returns c =
     sym (all-no _ _ _ (c .before .before .before .before .before .before .before .before .loop-test .taken) (sym (c .before .labelled-row .ensures ∙ ap₂ labelledBy (c .before .before .before .before .before .value-at .ensures ∙ ap (value _) (c .before .before .before .before .before .before .index .ensures)) (c .before .before .value-at2 .ensures ∙ ap (value _) (c .before .before .before .index2 .ensures))) ∙ not-true _ (c .if1 .taken))) ∙ c .before .before .before .before .before .before .before .before .before .loop .inv .1
 
--- src/questions.rt:63:9
 add-i : tie.Need-add-i Inv-loop μ-loop
 add-i c =
     omega arith
 
--- src/questions.rt:57:5
 loop-less : tie.Need-loop-less Inv-loop μ-loop
 loop-less c =
     omega arith
 
--- src/questions.rt:57:5
 loop-again : tie.Need-loop-again Inv-loop μ-loop
 loop-again c =
     (omega arith, sym (all-yes _ _ _ (c .before .before .before .before .before .before .before .before .loop-test .taken) (sym (c .before .labelled-row .ensures ∙ ap₂ labelledBy (c .before .before .before .before .before .value-at .ensures ∙ ap (value _) (c .before .before .before .before .before .before .index .ensures)) (c .before .before .value-at2 .ensures ∙ ap (value _) (c .before .before .before .index2 .ensures))) ∙ not-false _ (c .if1 .left))) ∙ c .before .before .before .before .before .before .before .before .before .loop .inv .1)
 
--- src/questions.rt:46:1
 returns-2 : tie.Need-returns-2 Inv-loop μ-loop
 returns-2 c =
     sym (all-end _ _ _ (c .loop-test .left)) ∙ c .before .loop .inv .1

@@ -1,3 +1,4 @@
+-- `table::questions::labelled_row` meets its contract. Assumes nothing.
 use Rattle.table.specs.QuestionLaws.{rest}
 use Rattle.rules.specs.Table.{sameName}
 use Rattle.table.specs.QuestionLaws.{other-name, level-by}
@@ -8,58 +9,41 @@ use Rattle.levels.specs.Levels.{rounded}
 use borrow.Author.Needs.{needs}
 use Rattle.table.proofs.questions.labelled_row.Statement.{statement}
 use Rattle.table.proofs.questions.labelled_row.Tie as tie
-use Rattle.table.proofs.questions.labelled_row.Reads as reads
-use Rattle.table.proofs.questions.labelled_row.Lts as lts
-use Rattle.fields.proofs.word_at.Reads as word-at-reads
-use Rattle.levels.proofs.centimetres.Reads as centimetres-reads
-use Rattle.table.proofs.questions.same_name.Reads as same-name-reads
 
--- src/questions.rt:39:19
 sub-same-name : tie.Need-sub-same-name
 sub-same-name c = search needs
 
--- src/questions.rt:39:19
 part-same-name-start : tie.Need-part-same-name-start
 part-same-name-start c = search needs
 
--- src/questions.rt:39:19
 part-same-name-end : tie.Need-part-same-name-end
 part-same-name-end c = search needs
 
--- src/questions.rt:39:30
 sub-same-name-2 : tie.Need-sub-same-name-2
 sub-same-name-2 c = search needs
 
--- src/questions.rt:39:30
 part-same-name-start-2 : tie.Need-part-same-name-start-2
 part-same-name-start-2 c = search needs
 
--- src/questions.rt:39:30
 part-same-name-end-2 : tie.Need-part-same-name-end-2
 part-same-name-end-2 c = search needs
 
--- src/questions.rt:39:9
 same-name-requires : tie.Need-same-name-requires
 same-name-requires c κs = search needs
 
--- src/questions.rt:40:9
 returns : tie.Need-returns
 returns c =
     other-name _ _ (ap₂ sameName (sym (rest 2 (c .before .before .before .before .before .before .args .job .now))) (sym (rest 4 (c .before .before .before .before .before .before .args .row .now))) ∙ sym (c .before .same-name .ensures) ∙ not-true _ (c .if1 .taken))
 
--- src/questions.rt:42:25
 word-at-requires : tie.Need-word-at-requires
 word-at-requires c κs = search needs
 
--- src/questions.rt:42:5
 centimetres-requires : tie.Need-centimetres-requires
 centimetres-requires c κs = search needs
 
--- src/questions.rt:42:45
 word-at-requires-2 : tie.Need-word-at-requires-2
 word-at-requires-2 c κs = search needs
 
--- src/questions.rt:35:1
 returns-2 : tie.Need-returns-2
 returns-2 c =
     level-by _ _ (λ i. omega (arith, c .before .before .before .before .before .before .before .before .shared-slice-known .given i)) (λ i. omega (arith, c .before .before .before .before .before .before .before .shared-slice-known2 .given i)) (ap₂ sameName (sym (rest 2 (c .before .before .before .before .before .before .before .before .before .args .job .now))) (sym (rest 4 (c .before .before .before .before .before .before .before .before .before .args .row .now))) ∙ sym (c .before .before .before .before .same-name .ensures) ∙ not-false _ (c .before .before .before .if1 .left)) _ _ (c .before .centimetres .ensures ∙ ap rounded (c .before .before .word-at .ensures)) (c .word-at2 .ensures)

@@ -1,3 +1,4 @@
+-- `table::questions::largest_of` meets its contract. Assumes nothing.
 use Rattle.table.specs.Loops.{largest-next, largest-end}
 use Rattle.rules.specs.Basics.{largest}
 use lib.ListN.{length, drop}
@@ -7,9 +8,6 @@ use Prim.Native.Nat.{_≤_, _-_, max}
 use mathlib.Core.Path.{_≡_, refl, sym, ap, _∙_}
 use Rattle.table.proofs.questions.largest_of.Statement.{statement}
 use Rattle.table.proofs.questions.largest_of.Tie as tie
-use Rattle.table.proofs.questions.largest_of.Reads as reads
-use Rattle.table.proofs.questions.largest_of.Lts as lts
-use Rattle.table.proofs.questions.greater.Reads as greater-reads
 
 abbrev Inv-loop : tie.InvT-loop
 Inv-loop list most₀ i₀ most i =
@@ -19,42 +17,34 @@ abbrev μ-loop : tie.MeasureT-loop
 μ-loop list most₀ i₀ most i =
     length list - i
 
--- src/questions.rt:92:5
 loop-holds : tie.Need-loop-holds Inv-loop μ-loop
 loop-holds c =
     (omega arith, omega arith)
 
--- src/questions.rt:93:35
 shared-slice-read-wide : tie.Need-shared-slice-read-wide Inv-loop μ-loop
 shared-slice-read-wide c =
     omega arith
 
--- src/questions.rt:93:30
 wide-requires : tie.Need-wide-requires Inv-loop μ-loop
 wide-requires c κs =
     search needs
 
--- src/questions.rt:93:9
 greater-requires : tie.Need-greater-requires Inv-loop μ-loop
 greater-requires c κs =
     search needs
 
--- src/questions.rt:94:9
 add-i : tie.Need-add-i Inv-loop μ-loop
 add-i c =
     omega arith
 
--- src/questions.rt:92:5
 loop-less : tie.Need-loop-less Inv-loop μ-loop
 loop-less c =
     omega arith
 
--- src/questions.rt:92:5
 loop-again : tie.Need-loop-again Inv-loop μ-loop
 loop-again c =
     (omega arith, omega (arith, c .before .wide .ensures, c .greater .ensures, largest-next (c .before .before .before .before .before .before .args .list .now) (c .before .before .before .before .loop .most) (c .before .before .before .before .loop .i) (c .before .before .before .loop-test .taken), c .before .before .before .before .loop .inv .1))
 
--- src/questions.rt:87:1
 returns : tie.Need-returns Inv-loop μ-loop
 returns c =
     sym (largest-end _ _ _ (c .loop-test .left)) ∙ c .before .loop .inv .1

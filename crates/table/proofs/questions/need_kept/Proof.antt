@@ -1,33 +1,25 @@
+-- `table::questions::need_kept` meets its contract. Assumes nothing.
 use Rattle.table.specs.Questions.{needKept}
 use Rattle.rules.specs.Basics.{imp}
 use mathlib.Core.Path.{sym, _∙_}
 use borrow.Author.Needs.{needs}
 use Rattle.table.proofs.questions.need_kept.Statement.{statement}
 use Rattle.table.proofs.questions.need_kept.Tie as tie
-use Rattle.table.proofs.questions.need_kept.Reads as reads
-use Rattle.table.proofs.questions.need_kept.Lts as lts
-use Rattle.jobset.proofs.Set.has.Reads as has-reads
-use Rattle.table.proofs.questions.is_late.Reads as is-late-reads
 
--- src/questions.rt:191:19
 sub-has : tie.Need-sub-has
 sub-has c = search needs
 
--- src/questions.rt:191:8
 has-requires : tie.Need-has-requires
 has-requires c κs = search needs
 
--- src/questions.rt:192:9
 is-late-requires : tie.Need-is-late-requires
 is-late-requires c κs = search needs
 
--- src/questions.rt:192:9
 returns : tie.Need-returns
 unfolding needKept imp
 returns c =
     simp (sym (c .before .before .has .ensures) ∙ c .before .if1 .taken, c .is-late .ensures)
 
--- src/questions.rt:187:1
 returns-2 : tie.Need-returns-2
 unfolding needKept imp
 returns-2 c =

@@ -1,3 +1,4 @@
+-- `table::questions::needs_kept` meets its contract. Assumes nothing.
 use Rattle.table.specs.Loops.{allFrom, all-start, all-no, all-yes, all-end}
 use Rattle.table.specs.Questions.{giversKept, setsKept}
 use Rattle.jobset.specs.Sets.{setAt}
@@ -9,9 +10,6 @@ use Prim.Native.Nat.{_≤_, _-_}
 use mathlib.Core.Path.{_≡_, sym, _∙_}
 use Rattle.table.proofs.questions.needs_kept.Statement.{statement}
 use Rattle.table.proofs.questions.needs_kept.Tie as tie
-use Rattle.table.proofs.questions.needs_kept.Reads as reads
-use Rattle.table.proofs.questions.needs_kept.Lts as lts
-use Rattle.table.proofs.questions.givers_kept.Reads as givers-kept-reads
 
 abbrev Inv-loop : tie.InvT-loop
 Inv-loop givers start board taker₀ taker =
@@ -21,53 +19,43 @@ abbrev μ-loop : tie.MeasureT-loop
 μ-loop givers start board taker₀ taker =
     length start - taker
 
--- src/questions.rt:218:5
 loop-holds : tie.Need-loop-holds Inv-loop μ-loop
 unfolding setsKept
 loop-holds c =
     (omega arith, all-start _ _)
 
--- src/questions.rt:220:26
 sub-t6 : tie.Need-sub-t6 Inv-loop μ-loop
 sub-t6 c =
     search needs
 
--- src/questions.rt:220:19
 mul-t8 : tie.Need-mul-t8 Inv-loop μ-loop
 mul-t8 c =
     search needs
 
--- src/questions.rt:220:19
 element-copy-out-t11 : tie.Need-element-copy-out-t11 Inv-loop μ-loop
 element-copy-out-t11 c =
     search needs
 
--- src/questions.rt:222:13
 givers-kept-requires : tie.Need-givers-kept-requires Inv-loop μ-loop
 givers-kept-requires c κs =
     search needs
 
--- src/questions.rt:223:13
 returns : tie.Need-returns Inv-loop μ-loop
 returns c =
     sym (all-no _ _ _ (c .before .before .before .loop-test .taken) (sym (c .before .givers-kept .ensures) ∙ not-true _ (c .if1 .taken))) ∙ c .before .before .before .before .loop .inv .1
 
--- src/questions.rt:225:9
 add-taker : tie.Need-add-taker Inv-loop μ-loop
 add-taker c =
     omega arith
 
--- src/questions.rt:218:5
 loop-less : tie.Need-loop-less Inv-loop μ-loop
 loop-less c =
     omega arith
 
--- src/questions.rt:218:5
 loop-again : tie.Need-loop-again Inv-loop μ-loop
 loop-again c =
     (omega arith, sym (all-yes _ _ _ (c .before .before .before .loop-test .taken) (sym (c .before .givers-kept .ensures) ∙ not-false _ (c .if1 .left))) ∙ c .before .before .before .before .loop .inv .1)
 
--- src/questions.rt:213:1
 returns-2 : tie.Need-returns-2 Inv-loop μ-loop
 returns-2 c =
     sym (all-end _ _ _ (c .loop-test .left)) ∙ c .before .loop .inv .1

@@ -1,34 +1,27 @@
+-- `table::questions::same_cell` meets its contract. Assumes nothing.
 use Rattle.table.specs.Questions.{sameCell}
 use borrow.Author.Tests.{eq-eqb, ne-eqb}
 use borrow.Author.Needs.{needs}
 use Rattle.table.proofs.questions.same_cell.Statement.{statement}
 use Rattle.table.proofs.questions.same_cell.Tie as tie
-use Rattle.table.proofs.questions.same_cell.Reads as reads
-use Rattle.table.proofs.questions.same_cell.Lts as lts
 
--- src/questions.rt:135:8
 shared-slice-read-if1 : tie.Need-shared-slice-read-if1
 shared-slice-read-if1 c = search needs
 
--- src/questions.rt:135:20
 shared-slice-read-if1-2 : tie.Need-shared-slice-read-if1-2
 shared-slice-read-if1-2 c = search needs
 
--- src/questions.rt:136:9
 returns : tie.Need-returns
 unfolding sameCell
 returns c =
     simp (ne-eqb _ _ (c .if1 .taken))
 
--- src/questions.rt:138:5
 shared-slice-read-result : tie.Need-shared-slice-read-result
 shared-slice-read-result c = search needs
 
--- src/questions.rt:138:17
 shared-slice-read-result-2 : tie.Need-shared-slice-read-result-2
 shared-slice-read-result-2 c = search needs
 
--- src/questions.rt:131:1
 returns-2 : tie.Need-returns-2
 unfolding sameCell
 returns-2 c =

@@ -1,3 +1,4 @@
+-- `table::questions::same_name` meets its contract. Assumes nothing.
 use Rattle.table.specs.Loops.{names-long, names-no, names-yes, names-end}
 use Rattle.rules.specs.Table.{sameName}
 use lib.ListN.{length, drop}
@@ -6,8 +7,6 @@ use Prim.Native.Nat.{_≤_, _-_}
 use mathlib.Core.Path.{_≡_, refl, sym, _∙_}
 use Rattle.table.proofs.questions.same_name.Statement.{statement}
 use Rattle.table.proofs.questions.same_name.Tie as tie
-use Rattle.table.proofs.questions.same_name.Reads as reads
-use Rattle.table.proofs.questions.same_name.Lts as lts
 
 abbrev Inv-loop : tie.InvT-loop
 Inv-loop a b i₀ i =
@@ -17,47 +16,38 @@ abbrev μ-loop : tie.MeasureT-loop
 μ-loop a b i₀ i =
     length a - i
 
--- src/questions.rt:32:9
 returns : tie.Need-returns Inv-loop μ-loop
 returns c =
     names-long _ _ (c .if1 .taken)
 
--- src/questions.rt:35:5
 loop-holds : tie.Need-loop-holds Inv-loop μ-loop
 loop-holds c =
     (omega arith, refl)
 
--- src/questions.rt:36:12
 shared-slice-read-if2 : tie.Need-shared-slice-read-if2 Inv-loop μ-loop
 shared-slice-read-if2 c =
     omega arith
 
--- src/questions.rt:36:20
 shared-slice-read-if2-2 : tie.Need-shared-slice-read-if2-2 Inv-loop μ-loop
 shared-slice-read-if2-2 c =
     omega arith
 
--- src/questions.rt:37:13
 returns-2 : tie.Need-returns-2 Inv-loop μ-loop
 returns-2 c =
     sym (names-no _ _ _ (c .before .before .before .loop-test .taken) (omega arith) (c .if2 .taken)) ∙ c .before .before .before .before .loop .inv .1
 
--- src/questions.rt:39:9
 add-i : tie.Need-add-i Inv-loop μ-loop
 add-i c =
     omega arith
 
--- src/questions.rt:35:5
 loop-less : tie.Need-loop-less Inv-loop μ-loop
 loop-less c =
     omega arith
 
--- src/questions.rt:35:5
 loop-again : tie.Need-loop-again Inv-loop μ-loop
 loop-again c =
     (omega arith, sym (names-yes _ _ _ (c .before .before .before .loop-test .taken) (omega arith) (c .if2 .left)) ∙ c .before .before .before .before .loop .inv .1)
 
--- src/questions.rt:28:1
 returns-3 : tie.Need-returns-3 Inv-loop μ-loop
 returns-3 c =
     sym (names-end _ _ _ (c .loop-test .left) (omega arith)) ∙ c .before .loop .inv .1

@@ -1,3 +1,4 @@
+-- `table::rows::head_ok` meets its contract. Assumes nothing.
 use Rattle.table.specs.RowWays.{head-not-whole, head-in, other-head, other-size, edition-in, edition-by}
 use Rattle.laws.specs.Tests.{T-true}
 use borrow.Author.Tests.{not-true, not-false}
@@ -5,46 +6,34 @@ use mathlib.Core.Path.{sym, ap, _∙_}
 use borrow.Author.Needs.{needs}
 use Rattle.table.proofs.rows.head_ok.Statement.{statement}
 use Rattle.table.proofs.rows.head_ok.Tie as tie
-use Rattle.table.proofs.rows.head_ok.Reads as reads
-use Rattle.table.proofs.rows.head_ok.Lts as lts
-use Rattle.fields.proofs.is_whole.Reads as is-whole-reads
-use Rattle.fields.proofs.value_at.Reads as value-at-reads
 
--- src/rows.rt:38:9
 is-whole-requires : tie.Need-is-whole-requires
 is-whole-requires c κs = search needs
 
--- src/rows.rt:39:9
 returns : tie.Need-returns
 returns c =
     head-not-whole _ (sym (c .before .is-whole .ensures) ∙ not-true _ (c .if1 .taken))
 
--- src/rows.rt:41:8
 shared-slice-read-if2 : tie.Need-shared-slice-read-if2
 shared-slice-read-if2 c =
     let h = head-in _ (sym (c .before .before .is-whole .ensures) ∙ not-false _ (c .before .if1 .left)) in search needs
 
--- src/rows.rt:42:9
 returns-2 : tie.Need-returns-2
 returns-2 c =
     other-head _ (sym (c .before .before .before .is-whole .ensures) ∙ not-false _ (c .before .before .if1 .left)) (c .if2 .taken)
 
--- src/rows.rt:44:9
 value-at-requires : tie.Need-value-at-requires
 value-at-requires c κs =
     T-true _ .1 (sym (c .before .before .before .is-whole .ensures) ∙ not-false _ (c .before .before .if1 .left))
 
--- src/rows.rt:46:9
 returns-3 : tie.Need-returns-3
 returns-3 c =
     other-size _ (sym (c .before .before .before .before .before .is-whole .ensures) ∙ not-false _ (c .before .before .before .before .if1 .left)) (c .before .before .if2 .left) _ (c .before .value-at .ensures) (c .if3 .taken)
 
--- src/rows.rt:48:5
 shared-slice-read-result : tie.Need-shared-slice-read-result
 shared-slice-read-result c =
     edition-in _ (sym (c .before .before .before .before .before .before .is-whole .ensures) ∙ not-false _ (c .before .before .before .before .before .if1 .left)) (c .before .before .before .if2 .left) _ (c .before .before .value-at .ensures) (c .before .if3 .left)
 
--- src/rows.rt:35:1
 returns-4 : tie.Need-returns-4
 returns-4 c =
     edition-by _ (sym (c .before .before .before .before .before .before .is-whole .ensures) ∙ not-false _ (c .before .before .before .before .before .if1 .left)) (c .before .before .before .if2 .left) _ (c .before .before .value-at .ensures) (c .before .if3 .left)

@@ -1,3 +1,4 @@
+-- `table::rows::read_rows` meets its contract. Assumes nothing.
 use Rattle.table.specs.Reader.{refused-read, no-head, table-read}
 use Rattle.table.specs.RowByRow.{ReadTo, start-read, refuses, one-too-many, row-in, row-read}
 use Rattle.table.specs.RowWays.{head-long}
@@ -12,11 +13,6 @@ use Prim.Native.Nat.{_-_, _+_, _<_}
 use mathlib.Core.Path.{_≡_, refl, sym, _∙_}
 use Rattle.table.proofs.rows.read_rows.Statement.{statement}
 use Rattle.table.proofs.rows.read_rows.Tie as tie
-use Rattle.table.proofs.rows.read_rows.Reads as reads
-use Rattle.table.proofs.rows.read_rows.Lts as lts
-use Rattle.table.proofs.rows.head_ok.Reads as head-ok-reads
-use Rattle.table.proofs.rows.refused.Reads as refused-reads
-use Rattle.table.proofs.rows.row_at.Reads as row-at-reads
 
 abbrev Inv-loop : tie.InvT-loop
 Inv-loop table offset₀ start₀ board₀ count₀ at₀ offset start board count at =
@@ -32,142 +28,114 @@ found c = sym (c .before .before .before .row-at .ensures) ∙ c .before .end .g
 lies : (c : tie.After-known-told Inv-loop μ-loop) → (c .before .before .before .before .before .before .loop .count < 64) × (c .before .before .before .before .before .before .loop .at < 65536) × (c .before .before .before .before .before .before .loop .at + 4 < length (c .before .before .before .before .before .before .before .before .before .before .args .table .now)) × (c .before .before .before .before .before .before .loop .at < c .before .end .given .0 .0)
 lies c = row-in _ _ _ _ _ _ (c .before .before .before .before .before .before .loop .inv) (c .before .before .before .before .before .loop-test .taken) _ (found c) (c .before .before .before .before .if2 .left)
 
--- src/rows.rt:97:9
 head-ok-requires : tie.Need-head-ok-requires Inv-loop μ-loop
 head-ok-requires c κs =
     search needs
 
--- src/rows.rt:98:9
 refused-requires : tie.Need-refused-requires Inv-loop μ-loop
 refused-requires c κs =
     search needs
 
--- src/rows.rt:98:9
 returns : tie.Need-returns Inv-loop μ-loop
 returns c =
     refused-read _ _ (c .refused .ensures) (no-head _ (sym (c .before .before .head-ok .ensures) ∙ not-true _ (c .before .if1 .taken)))
 
--- src/rows.rt:105:5
 loop-holds : tie.Need-loop-holds Inv-loop μ-loop
 loop-holds c =
     start-read _ (head-long _ (T-true _ .1 (sym (c .before .head-ok .ensures) ∙ not-false _ (c .if1 .left))))
 
--- src/rows.rt:107:13
 refused-requires-2 : tie.Need-refused-requires-2 Inv-loop μ-loop
 refused-requires-2 c κs =
     search needs
 
--- src/rows.rt:107:13
 returns-2 : tie.Need-returns-2 Inv-loop μ-loop
 returns-2 c =
     refused-read _ _ (c .refused2 .ensures) (one-too-many _ _ _ _ _ _ (c .before .before .before .loop .inv) (c .before .before .loop-test .taken) (c .before .if2 .taken))
 
--- src/rows.rt:109:38
 row-at-requires : tie.Need-row-at-requires Inv-loop μ-loop
 row-at-requires c κs =
     search needs
 
--- src/rows.rt:109:30
 enum-known-end : tie.Need-enum-known-end Inv-loop μ-loop
 enum-known-end c =
     search needs
 
--- src/rows.rt:110:13
 enum-told : tie.Need-enum-told Inv-loop μ-loop
 enum-told c =
     search needs
 
--- src/rows.rt:110:13
 refused-requires-3 : tie.Need-refused-requires-3 Inv-loop μ-loop
 refused-requires-3 c κs =
     search needs
 
--- src/rows.rt:110:13
 returns-3 : tie.Need-returns-3 Inv-loop μ-loop
 returns-3 c =
     refused-read _ _ (c .refused3 .ensures) (refuses _ _ _ _ _ _ (c .before .before .before .before .before .before .loop .inv) (c .before .before .before .before .before .loop-test .taken) (sym (c .before .before .before .row-at .ensures) ∙ c .before .enum-told .given .1))
 
--- src/rows.rt:112:25
 cast-offset : tie.Need-cast-offset Inv-loop μ-loop
 cast-offset c =
     let h = lies c in search needs
 
--- src/rows.rt:112:9
 mul-offset : tie.Need-mul-offset Inv-loop μ-loop
 mul-offset c =
     let h = lies c in search needs
 
--- src/rows.rt:112:9
 array-write-offset : tie.Need-array-write-offset Inv-loop μ-loop
 array-write-offset c =
     let h = lies c in search needs
 
--- src/rows.rt:113:30
 add-start : tie.Need-add-start Inv-loop μ-loop
 add-start c =
     let h = lies c in search needs
 
--- src/rows.rt:113:24
 shared-slice-read-start : tie.Need-shared-slice-read-start Inv-loop μ-loop
 shared-slice-read-start c =
     let h = lies (c .before) in search needs
 
--- src/rows.rt:113:9
 array-write-start : tie.Need-array-write-start Inv-loop μ-loop
 array-write-start c =
     let h = lies (c .before) in search needs
 
--- src/rows.rt:114:30
 add-board : tie.Need-add-board Inv-loop μ-loop
 add-board c =
     let h = lies (c .before) in search needs
 
--- src/rows.rt:114:24
 shared-slice-read-board : tie.Need-shared-slice-read-board Inv-loop μ-loop
 shared-slice-read-board c =
     let h = lies (c .before .before) in search needs
 
--- src/rows.rt:114:9
 array-write-board : tie.Need-array-write-board Inv-loop μ-loop
 array-write-board c =
     let h = lies (c .before .before) in search needs
 
--- src/rows.rt:115:9
 add-count : tie.Need-add-count Inv-loop μ-loop
 add-count c =
     let h = lies (c .before .before) in search needs
 
--- src/rows.rt:105:5
 loop-less : tie.Need-loop-less Inv-loop μ-loop
 loop-less c =
     let h = lies (c .before .before) in omega arith
 
--- src/rows.rt:105:5
 loop-again : tie.Need-loop-again Inv-loop μ-loop
 loop-again c =
     row-read _ _ _ _ _ _ (c .before .before .before .before .before .before .before .before .loop .inv) (c .before .before .before .before .before .before .before .loop-test .taken) _ (found (c .before .before)) (c .before .before .before .before .before .before .if2 .left)
 
--- src/rows.rt:120:21
 shared-slice-read-wide : tie.Need-shared-slice-read-wide Inv-loop μ-loop
 shared-slice-read-wide c =
     let h = head-long _ (T-true _ .1 (sym (c .before .before .before .before .head-ok .ensures) ∙ not-false _ (c .before .before .before .if1 .left))) in search needs
 
--- src/rows.rt:120:16
 wide-requires : tie.Need-wide-requires Inv-loop μ-loop
 wide-requires c κs =
     search needs
 
--- src/rows.rt:121:22
 shared-slice-read-wide-2 : tie.Need-shared-slice-read-wide-2 Inv-loop μ-loop
 shared-slice-read-wide-2 c =
     let h = head-long _ (T-true _ .1 (sym (c .before .before .before .before .before .before .head-ok .ensures) ∙ not-false _ (c .before .before .before .before .before .if1 .left))) in search needs
 
--- src/rows.rt:121:17
 wide-requires-2 : tie.Need-wide-requires-2 Inv-loop μ-loop
 wide-requires-2 c κs =
     search needs
 
--- src/rows.rt:94:1
 returns-4 : tie.Need-returns-4 Inv-loop μ-loop
 returns-4 c =
     table-read _ (T-true _ .1 (sym (c .before .before .before .before .before .before .before .head-ok .ensures) ∙ not-false _ (c .before .before .before .before .before .before .if1 .left))) _ _ _ _ _ (c .before .before .before .before .before .loop .inv) (c .before .before .before .before .loop-test .left) _ _ (c .before .before .wide .ensures) (c .wide2 .ensures)

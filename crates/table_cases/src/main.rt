@@ -1,0 +1,10 @@
+// The cases of document 01 that name the check or the lookup: a line for each, with the number that the form for C gives.
+mod checked;
+mod long;
+mod looked;
+
+fn main() {
+    checked::all();
+    looked::all();
+    long::all();
+}
