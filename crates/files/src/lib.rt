@@ -1,4 +1,4 @@
-// Reading the file that an argument names.
+// Reading and writing the file that an argument names.
 ghost use Rattle.io.specs.Counts.{Counts};
 
 // Whether the file could be read, and how many bytes of it stand at the start of the buffer.
@@ -49,4 +49,22 @@ pub fn read_argument(i: usize, buf: &mut [u8]) -> Contents
     }
     libc::close(fd);
     contents
+}
+
+// Writes these bytes to the file that argument i names, in place of what it held, and says whether all of them were written. Where not, a line on
+// standard error says why.
+pub fn write_argument(i: usize, bytes: &[u8]) -> bool {
+    let mut path = io::buffer();
+    let n = os::arg(i, &mut path);
+    let fd = os::open_overwrite(&path[..n]);
+    if fd < 0 {
+        os::fail(&path[..n]);
+        return false;
+    }
+    let written = io::write_all(fd, bytes);
+    if !written {
+        os::fail(&path[..n]);
+    }
+    libc::close(fd);
+    written
 }
