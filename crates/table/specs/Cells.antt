@@ -9,10 +9,10 @@ use Rattle.rules.specs.Basics.{choose, at}
 use Rattle.rules.specs.Fields.{Answer, refused, ask}
 use Rattle.rules.specs.Table.{Table, starts, boardsOf, sized, apartb}
 use Rattle.laws.specs.Lists.{length-tabulate}
-use Rattle.table.specs.Rows.{rowNumber, tableOf, Holds}
-use Rattle.table.specs.Questions.{sizedIn}
+use Rattle.rows.specs.Rows.{rowNumber, tableOf, Holds}
+use Rattle.questions.specs.Questions.{sizedIn}
 use Rattle.table.specs.Entries.{cellNumber}
-use Rattle.table.specs.declared.rows.Rows as code
+use Rattle.rows.specs.declared.Rows as code
 
 -- a table of n rows has n of them
 pub rows-length : (bs : List ℕ) (n : ℕ) → length (tableOf bs n .rows) ≡ n

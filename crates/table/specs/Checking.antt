@@ -25,14 +25,14 @@ use Rattle.jobset.specs.Arrays.{GiversAre}
 use Rattle.jobfile.specs.Reading.{Held, Reads}
 use Rattle.windows.specs.Levels.{levelsOf}
 use Rattle.windows.specs.LevelLaws.{levels-ok}
-use Rattle.table.specs.Rows.{isRow, rowNumber, tableOf, Few, Holds, Decodes}
-use Rattle.table.specs.RowWays.{IsRow, row-is}
-use Rattle.table.specs.Questions.{labelledBy, Placed, labelledIn, setsKept}
-use Rattle.table.specs.QuestionLaws.{kept-is}
+use Rattle.rows.specs.Rows.{isRow, rowNumber, tableOf, Few, Holds, Decodes}
+use Rattle.rows.specs.RowWays.{IsRow, row-is}
+use Rattle.questions.specs.Questions.{labelledBy, Placed, labelledIn, setsKept}
+use Rattle.questions.specs.QuestionLaws.{kept-is}
 use Rattle.table.specs.Cells.{rows-length, cells-yes, cells-no}
 use Rattle.table.specs.Entries.{cellNumber, verdictOf}
 use Rattle.table.specs.declared.Verdict.the-variants as verdict
-use Rattle.table.specs.declared.rows.Rows as table-rows
+use Rattle.rows.specs.declared.Rows as table-rows
 use Rattle.jobfile.specs.declared.JobFile as code
 use Rattle.windows.specs.declared.JobLevels.{JobLevels}
 

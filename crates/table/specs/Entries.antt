@@ -14,7 +14,7 @@ use Rattle.table.specs.declared.places.Found.{Found}
 use Rattle.table.specs.declared.places.Found.the-variants as found
 use Rattle.table.specs.declared.places.Place.{Place}
 use Rattle.table.specs.declared.places.Place.the-variants as place
-use Rattle.table.specs.Questions.{sizedIn}
+use Rattle.questions.specs.Questions.{sizedIn}
 
 -- questions 16 and 17 of starts t and boards b: the number of the first that says no, or 0
 unfoldable pub cellNumber : ℕ → ℕ → ℕ → List ℕ → List ℕ → ℕ

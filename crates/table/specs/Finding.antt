@@ -13,13 +13,13 @@ use Rattle.rules.specs.Table.{Row, Table, starts, boardsOf, decode, sized, apar
 use Rattle.rules.specs.Answers.{jobAt, lookupTable, lookup, nameSpan}
 use Rattle.laws.specs.Tests.{tests}
 use Rattle.laws.specs.Fields.{ask-yes, ask-no, whole-is, length-value, after-head}
-use Rattle.table.specs.declared.rows.Rows as code
+use Rattle.rows.specs.declared.Rows as code
 use Rattle.table.specs.declared.places.Found.{Found}
 use Rattle.table.specs.declared.places.Found.the-variants as found
 use Rattle.table.specs.declared.places.Place.{Place}
 use Rattle.table.specs.declared.places.Place.the-variants as place
-use Rattle.table.specs.Rows.{isRow, rowNumber, tableOf, Few, Holds, Decodes}
-use Rattle.table.specs.RowWays.{row-is}
+use Rattle.rows.specs.Rows.{isRow, rowNumber, tableOf, Few, Holds, Decodes}
+use Rattle.rows.specs.RowWays.{row-is}
 use Rattle.table.specs.Cells.{rows-length, cells-yes, cells-no}
 use Rattle.table.specs.Lookup.{job-at, job-in}
 use Rattle.table.specs.Names.{job-few, name-lies}

@@ -16,9 +16,9 @@ use Rattle.laws.specs.Tests.{T-and, T-leb}
 use Rattle.laws.specs.Lists.{tabulate-at}
 use Rattle.laws.specs.Fields.{ask-got, after-got, whole-is, length-value}
 use Rattle.laws.specs.Check.{decoded-few}
-use Rattle.table.specs.Rows.{isRow, rowNumber, tableOf}
-use Rattle.table.specs.RowWays.{IsRow, row-is}
-use Rattle.table.specs.Decoded.{decoded-is}
+use Rattle.rows.specs.Rows.{isRow, rowNumber, tableOf}
+use Rattle.rows.specs.RowWays.{IsRow, row-is}
+use Rattle.rows.specs.Decoded.{decoded-is}
 use Rattle.table.specs.Lookup.{job-in}
 use Rattle.table.specs.Entries.{placeOf, partOf}
 

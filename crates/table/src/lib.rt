@@ -1,7 +1,5 @@
 // The slot table: the check (questions 2 to 11 of the job file and 14 to 18 of the table), and the lookup and the name (14, 16 and 17 of the table).
 mod places;
-mod questions;
-mod rows;
 
 pub use places::Found;
 pub use places::Place;

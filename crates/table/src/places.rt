@@ -1,8 +1,8 @@
 // The lookup: what a board does in a slot, and the name of the job.
-use crate::questions::apart;
-use crate::questions::sized;
-use crate::rows::Rows;
-use crate::rows::read_rows;
+use questions::apart;
+use questions::sized;
+use rows::Rows;
+use rows::read_rows;
 use fields::index;
 use fields::value_at;
 use fields::wide;

@@ -1,6 +1,6 @@
 -- `table::places::find` meets its contract. Assumes nothing.
 use Rattle.table.specs.Finding.{not-read, fits, no-rows, bad-cells, idle, row-in, row-here, row-ends, found-here}
-use Rattle.table.specs.RowWays.{row-is}
+use Rattle.rows.specs.RowWays.{row-is}
 use lib.Seq.{length-take-le}
 use borrow.Author.Tests.{not-true, not-false}
 use native.Mathlib.Omega.{arith}

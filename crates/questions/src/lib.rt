@@ -1,0 +1,216 @@
+// Questions 15 to 18 of a table, over the starts and boards of its rows in number order.
+use fields::index;
+use fields::value_at;
+use fields::wide;
+use fields::word_at;
+use jobset::Set;
+ghost use mathlib.Core.Path.{_≡_};
+ghost use Prim.Native.Nat.{ℕ, _<_, _≤_, max};
+ghost use lib.ListN.{length};
+ghost use lib.Dec.{leb};
+ghost use Rattle.rules.specs.Basics.{at, all, largest};
+ghost use Rattle.rules.specs.Table.{sameName, apartb};
+ghost use Rattle.questions.specs.Questions.{labelledBy, Placed, labelledIn, sizedIn, sameCell, shared, lateEnough, needKept, giversKept, setsKept};
+
+// ---- 15
+
+// Are the two names the same?
+fn same_name(a: &[u8], b: &[u8]) -> bool
+    ensures { λ r. ⌜ r ≡ sameName (now (a .entry)) (now (b .entry)) ⌝ }
+{
+    if a.len() != b.len() {
+        return false;
+    }
+    let mut i = 0;
+    while i < a.len() {
+        if a[i] != b[i] {
+            return false;
+        }
+        i += 1;
+    }
+    true
+}
+
+// Has the row its job's name, and its level in centimetres? By the values of their fields.
+fn labelled_row(job: &[u8], row: &[u8]) -> bool
+    requires { ⌜ (2 ≤ length (now job)) × (4 ≤ length (now row)) ⌝ }
+    ensures { λ r. ⌜ r ≡ labelledBy (now (job .entry)) (now (row .entry)) ⌝ }
+{
+    if !same_name(&job[2..], &row[4..]) {
+        return false;
+    }
+    levels::centimetres(word_at(job, 0)) == word_at(row, 2)
+}
+
+// Question 15: has each job its name and its level in centimetres? `jobs` and `rows` say where the fields begin.
+pub fn labelled(file: &[u8], jobs: &[u16; 64], table: &[u8], rows: &[u16; 64], count: usize) -> bool
+    requires { ⌜ (count ≤ 64) × ((i : ℕ) → i < count → Placed (now file) (at (now jobs) i) (now table) (at (now rows) i)) ⌝ }
+    ensures { λ r. ⌜ r ≡ labelledIn (now (file .entry)) (now (jobs .entry)) (now (table .entry)) (now (rows .entry)) count ⌝ }
+{
+    let mut i = 0;
+    while i < count {
+        let job = value_at(file, index(jobs[i]));
+        let row = value_at(table, index(rows[i]));
+        if !labelled_row(job, row) {
+            return false;
+        }
+        i += 1;
+    }
+    true
+}
+
+// ---- 16
+
+fn greater(a: usize, b: usize) -> usize
+    ensures { λ r. ⌜ r ≡ max a b ⌝ }
+{
+    if a < b { b } else { a }
+}
+
+// The largest entry; 0 where there is none.
+fn largest_of(list: &[u8]) -> usize
+    ensures { λ r. ⌜ r ≡ largest (now (list .entry)) ⌝ }
+{
+    let mut most = 0;
+    let mut i = 0;
+    while i < list.len() {
+        most = greater(most, wide(list[i]));
+        i += 1;
+    }
+    most
+}
+
+// Is each entry at least 1?
+fn all_positive(list: &[u8]) -> bool
+    ensures { λ r. ⌜ r ≡ all (leb 1) (now (list .entry)) ⌝ }
+{
+    let mut i = 0;
+    while i < list.len() {
+        if list[i] == 0 {
+            return false;
+        }
+        i += 1;
+    }
+    true
+}
+
+// Question 16: are slots and boards those of the rows, and within their bounds?
+pub fn sized(limit: usize, slots: usize, boards: usize, start: &[u8], board: &[u8]) -> bool
+    ensures { λ r. ⌜ r ≡ sizedIn limit slots boards (now (start .entry)) (now (board .entry)) ⌝ }
+{
+    if slots != largest_of(start) + 1 {
+        return false;
+    }
+    if limit < slots {
+        return false;
+    }
+    if !all_positive(board) {
+        return false;
+    }
+    if boards != largest_of(board) {
+        return false;
+    }
+    boards <= 8
+}
+
+// ---- 17
+
+// Do rows i and j share start and board?
+fn same_cell(start: &[u8], board: &[u8], i: usize, j: usize) -> bool
+    requires { ⌜ (i < length (now start)) × (j < length (now start)) × (length (now board) ≡ length (now start)) ⌝ }
+    ensures { λ r. ⌜ r ≡ sameCell (now (start .entry)) (now (board .entry)) i j ⌝ }
+{
+    if start[i] != start[j] {
+        return false;
+    }
+    board[i] == board[j]
+}
+
+// Does an earlier row share start and board with row i?
+fn is_shared(start: &[u8], board: &[u8], i: usize) -> bool
+    requires { ⌜ (i < length (now start)) × (length (now board) ≡ length (now start)) ⌝ }
+    ensures { λ r. ⌜ r ≡ shared (now (start .entry)) (now (board .entry)) i ⌝ }
+{
+    let mut j = 0;
+    while j < i {
+        if same_cell(start, board, i, j) {
+            return true;
+        }
+        j += 1;
+    }
+    false
+}
+
+// Question 17: do no two jobs share start and board?
+pub fn apart(start: &[u8], board: &[u8]) -> bool
+    requires { ⌜ length (now board) ≡ length (now start) ⌝ }
+    ensures { λ r. ⌜ r ≡ apartb (length (now (start .entry))) (now (start .entry)) (now (board .entry)) ⌝ }
+{
+    let mut i = 0;
+    while i < start.len() {
+        if is_shared(start, board, i) {
+            return false;
+        }
+        i += 1;
+    }
+    true
+}
+
+// ---- 18
+
+// Does the taker start late enough after the giver: one slot on its board, two on another?
+fn is_late(start: &[u8], board: &[u8], giver: usize, taker: usize) -> bool
+    requires { ⌜ (giver < length (now start)) × (taker < length (now start)) × (length (now board) ≡ length (now start)) ⌝ }
+    ensures { λ r. ⌜ r ≡ lateEnough (now (start .entry)) (now (board .entry)) giver taker ⌝ }
+{
+    let before = wide(start[giver]);
+    let after = wide(start[taker]);
+    if board[taker] == board[giver] {
+        return before + 1 <= after;
+    }
+    before + 2 <= after
+}
+
+// Is the giver in the set, at its place, only if the taker starts late enough?
+fn need_kept(givers: Set, start: &[u8], board: &[u8], giver: usize, taker: usize) -> bool
+    requires { ⌜ (giver < length (now start)) × (taker < length (now start)) × (length (now board) ≡ length (now start)) × (length (now start) ≤ 64) ⌝ }
+    ensures { λ r. ⌜ r ≡ needKept givers (now (start .entry)) (now (board .entry)) giver taker ⌝ }
+{
+    if givers.has(63 - giver) {
+        return is_late(start, board, giver, taker);
+    }
+    true
+}
+
+// Are the needs of one taker kept, whose givers are the set?
+fn givers_kept(givers: Set, start: &[u8], board: &[u8], taker: usize) -> bool
+    requires { ⌜ (taker < length (now start)) × (length (now board) ≡ length (now start)) × (length (now start) ≤ 64) ⌝ }
+    ensures { λ r. ⌜ r ≡ giversKept givers (now (start .entry)) (now (board .entry)) taker ⌝ }
+{
+    let mut giver = 0;
+    while giver < start.len() {
+        if !need_kept(givers, start, board, giver, taker) {
+            return false;
+        }
+        giver += 1;
+    }
+    true
+}
+
+// Question 18: are the needs kept, by the sets of givers of each job?
+pub fn needs_kept(givers: &[u64; 64], start: &[u8], board: &[u8]) -> bool
+    requires { ⌜ (length (now board) ≡ length (now start)) × (length (now start) ≤ 64) ⌝ }
+    ensures { λ r. ⌜ r ≡ setsKept (now (givers .entry)) (now (start .entry)) (now (board .entry)) ⌝ }
+{
+    let mut taker = 0;
+    while taker < start.len() {
+        let set = Set {
+            bits: givers[63 - taker],
+        };
+        if !givers_kept(set, start, board, taker) {
+            return false;
+        }
+        taker += 1;
+    }
+    true
+}
