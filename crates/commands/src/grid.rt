@@ -74,7 +74,7 @@ fn print_boards(boards: usize) {
 }
 
 // A table that the lookup does not refuse: its head says how many slots and boards it has.
-pub fn print(table: &[u8]) {
+pub(crate) fn print(table: &[u8]) {
     if table.len() < 6 {
         return;
     }

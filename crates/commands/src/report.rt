@@ -58,7 +58,7 @@ fn print_jobs(table: &[u8]) {
 }
 
 // A table that the planner wrote.
-pub fn print_table(table: &[u8]) {
+pub(crate) fn print_table(table: &[u8]) {
     if table.len() < 6 {
         return;
     }

@@ -1,4 +1,6 @@
 // Reading and writing the file that an argument names.
+ghost use Prim.Native.Nat.{_≤_};
+ghost use lib.ListN.{length};
 ghost use Rattle.io.specs.Counts.{Counts};
 
 // Whether the file could be read, and how many bytes of it stand at the start of the buffer.
@@ -51,20 +53,22 @@ pub fn read_argument(i: usize, buf: &mut [u8]) -> Contents
     contents
 }
 
-// Writes these bytes to the file that argument i names, in place of what it held, and says whether all of them were written. Where not, a line on
-// standard error says why.
-pub fn write_argument(i: usize, bytes: &[u8]) -> bool {
+// Writes these bytes to the file that argument i names, in place of what it held; gives how many they are, or 0 where not all of them were written, and
+// a line on standard error says why.
+pub fn write_argument(i: usize, bytes: &[u8]) -> usize
+    ensures { λ r. ⌜ r ≤ length (now (bytes .entry)) ⌝ }
+{
     let mut path = io::buffer();
     let n = os::arg(i, &mut path);
     let fd = os::open_overwrite(&path[..n]);
     if fd < 0 {
         os::fail(&path[..n]);
-        return false;
+        return 0;
     }
     let written = io::write_all(fd, bytes);
     if !written {
         os::fail(&path[..n]);
     }
     libc::close(fd);
-    written
+    if written { bytes.len() } else { 0 }
 }

@@ -1,5 +1,6 @@
 -- The numbers of the answers are those of the rules, and the name's number says where it stands. Assumes nothing.
 use mathlib.Core.Path.{_≡_, refl, sym, ap, subst, _∙_}
+use mathlib.Core.Logic.{inl, inr}
 use mathlib.Core.List.{List, []}
 use Prim.Native.Nat.{ℕ, zero, suc, _+_, _-_, _*_, _/_, _%_, _≤_, _<_}
 use native.Mathlib.Omega.{arith}
@@ -9,16 +10,20 @@ use Rattle.rules.specs.Sizes.{tableSize}
 use Rattle.rules.specs.Basics.{at}
 use Rattle.rules.specs.Fields.{Answer, refused, got, numberOf, part}
 use Rattle.rules.specs.Table.{Table, rowStart}
-use Rattle.rules.specs.Answers.{Outcome, plan, lookup, nameSpan, nameAt}
+use Rattle.rules.specs.Answers.{Outcome, plan, check, lookup, nameSpan, nameAt}
 use Rattle.laws.specs.Tests.{T-eqb, choose-yes, choose-no}
 use Rattle.laws.specs.Numbers.{bytes-all}
-use Rattle.laws.specs.Demands.{plan-size, table-has-bytes}
+use Rattle.laws.specs.Demands.{plan-refuses, plan-size, table-has-bytes}
+use Rattle.laws.specs.Refusals.{Refusal, check-most, LookupNumber, lookup-number}
 use Rattle.planner.specs.Planner.{outcomeOf}
 use Rattle.planner.specs.declared.Planned.{Planned}
 use Rattle.planner.specs.declared.Planned.the-variants as planned
+use Rattle.table.specs.declared.Verdict.{Verdict}
+use Rattle.table.specs.declared.places.Found.{Found}
+use Rattle.table.specs.declared.places.Found.the-variants as found
 use Rattle.table.specs.Entries.{verdictOf, foundOf, placeOf}
 use Rattle.table.specs.Names.{name-lies}
-use Rattle.gate.specs.Numbers.{planNumber, verdictNumber, foundNumber, placeNumber, lookupNumber, nameNumber}
+use Rattle.gate.specs.Numbers.{planNumber, plannedNumber, verdictNumber, foundNumber, placeNumber, lookupNumber, nameNumber}
 
 -- the planner's answer p leaves the buffers work′ and table′
 module _ (file work table : List ℕ) (p : Planned) (work′ table′ : List ℕ) (answered : outcomeOf p work′ table′ ≡ plan file work table) where
@@ -74,3 +79,33 @@ name-at bs s b = go (lookup bs s b) refl
     go (refused q) e = unfold part nameSpan nameNumber in refl
     go (got zero) e = unfold part nameSpan nameNumber in refl
     go (got (suc i)) e = unfold part nameSpan nameNumber in let f = far i e in rw (f .0, f .1) refl
+
+-- ---- no number is greater than that of the last question
+
+pub planned-most : (file work table : List ℕ) (p : Planned) (work′ table′ : List ℕ) → outcomeOf p work′ table′ ≡ plan file work table → plannedNumber p ≤ 13
+unfolding plannedNumber
+planned-most file work table (planned.Table k) work′ table′ e = omega arith
+planned-most file work table (planned.Refused q) work′ table′ e = omega (arith, ap (λ (o : Outcome). o .number) e, plan-refuses file work table)
+
+pub verdict-most : (file table : List ℕ) (v : Verdict) → v ≡ verdictOf (check file table) → verdictNumber v ≤ 18
+verdict-most file table v e = omega (arith, ap verdictNumber e, verdict-number (check file table), check-most file table)
+
+unfoldable Few : Found → Type 0
+Few (found.Job j) = Unit {0}
+Few found.Idle = Unit {0}
+Few (found.Refused q) = q ≤ 17
+
+few : (x : Answer ℕ) → Refusal LookupNumber x → Few (foundOf x)
+unfolding Few foundOf Refusal
+few (refused q) h = most q h
+  where
+    most : (n : ℕ) → LookupNumber n → n ≤ 17
+    most n (inl p) = omega arith
+    most n (inr (inl p)) = omega arith
+    most n (inr (inr p)) = omega arith
+few (got zero) h = tt
+few (got (suc i)) h = tt
+
+pub found-most : (bs : List ℕ) (s b q : ℕ) → foundOf (lookup bs s b) ≡ found.Refused q → q ≤ 17
+unfolding Few
+found-most bs s b q e = subst Few e (few (lookup bs s b) (lookup-number bs s b))

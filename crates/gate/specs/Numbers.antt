@@ -5,12 +5,19 @@ use lib.Dec.{eqb}
 use Rattle.rules.specs.Basics.{choose}
 use Rattle.rules.specs.Fields.{Answer, refused, got}
 use Rattle.rules.specs.Answers.{Outcome, nameSpan}
+use Rattle.planner.specs.declared.Planned.{Planned}
+use Rattle.planner.specs.declared.Planned.the-variants as planned
 use Rattle.table.specs.declared.Verdict.{Verdict}
 use Rattle.table.specs.declared.Verdict.the-variants as verdict
 use Rattle.table.specs.declared.places.Found.{Found}
 use Rattle.table.specs.declared.places.Found.the-variants as found
 use Rattle.table.specs.declared.places.Place.{Place}
 use Rattle.table.specs.declared.places.Place.the-variants as place
+
+-- the number of each answer of the planner: 0 for a table
+unfoldable pub plannedNumber : Planned → ℕ
+plannedNumber (planned.Table n) = 0
+plannedNumber (planned.Refused q) = q
 
 -- the number of each verdict: 0 passes
 unfoldable pub verdictNumber : Verdict → ℕ

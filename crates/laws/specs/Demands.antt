@@ -1,6 +1,6 @@
--- Demands 1 to 3 of document 01, said of the planner's whole answer: number, size and both buffers. Assumes nothing.
+-- Demands 1 to 3, which document 01 refers to, said of the planner's whole answer: number, size and both buffers. Assumes nothing.
 use mathlib.Core.Path.{_≡_, refl, sym, ap, _∙_}
-use mathlib.Core.Logic.{_↔_}
+use mathlib.Core.Logic.{_⊎_, inl, inr, _↔_}
 use mathlib.Core.Bool.{_&&_}
 use mathlib.Core.List.{List, _++_}
 use mathlib.Core.Option.{Option, none, some}
@@ -24,12 +24,12 @@ use Rattle.rules.specs.Answers.{Outcome, tableOf, tabled, planTable, cleared, w
 use Rattle.laws.specs.Tests.{T-leb, tests, by-choice, choose-yes}
 use Rattle.laws.specs.Fields.{ask-got, after-got}
 use Rattle.laws.specs.Circles.{circle-free}
-use Rattle.laws.specs.Program.{program-is}
+use Rattle.laws.specs.Program.{program-is, slots-fits}
 use Rattle.laws.specs.JobFile.{Readable, readable}
 use Rattle.laws.specs.Refusals.{Refusal, Between, plan-number}
-use Rattle.laws.specs.Best.{Shortest}
+use Rattle.laws.specs.Best.{Shortest, best-found, best-none}
 use Rattle.laws.specs.BoardLaws.{boards-rules, boards-least}
-use Rattle.laws.specs.Planned.{refused-13, written-where, written-is, table-ok, rows-count, starts-are, boards-are, table-for, reads-back}
+use Rattle.laws.specs.Planned.{asked-13, refused-13, written-where, written-is, table-ok, rows-count, starts-are, boards-are, table-for, reads-back}
 use Rattle.laws.specs.Check.{Labelled, check-exactly}
 use Rattle.laws.specs.Table.{encode-length}
 
@@ -72,6 +72,12 @@ module _ (file work table : List ℕ) (bytes : Bytes file) (work-full : workSize
       work = cleared work;
     }
 
+  needs-in : NeedsIn n (f .needs)
+  needs-in g k a = let w = ok .needs-in g k a in (w .0, w .1)
+
+  kept-of : (t : List ℕ) → Shortest n (f .needs) (f .limit) t → Kept (Gives (f .needs)) (at t) × Fits n (slots t) t
+  kept-of t s = program-is n (f .needs) (slots t) t (ok .distinct) needs-in .0 (s .satisfies)
+
   table-of : (t : List ℕ) → Shortest n (f .needs) (f .limit) t → planTable f ≡ got (tableOf f t) → TableOf t
   unfolding written
   table-of t s e = record {
@@ -81,11 +87,8 @@ module _ (file work table : List ℕ) (bytes : Bytes file) (work-full : workSize
     answer = plan-is ∙ ap (λ (x : Answer Table). written x work table) e;
   }
     where
-      needs-in : NeedsIn n (f .needs)
-      needs-in g k a = let w = ok .needs-in g k a in (w .0, w .1)
-
       kept : Kept (Gives (f .needs)) (at t) × Fits n (slots t) t
-      kept = program-is n (f .needs) (slots t) t (ok .distinct) needs-in .0 (s .satisfies)
+      kept = kept-of t s
 
   -- where some start list that satisfies P fits the limit, a table is written
   pub writes-table : (u : List ℕ) → SatisfiesP n (f .needs) (f .limit) u → (t : List ℕ) × TableOf t
@@ -102,6 +105,28 @@ module _ (file work table : List ℕ) (bytes : Bytes file) (work-full : workSize
       number-13 : (a : Answer Table) → written a work table .number ≡ 13 → a ≡ refused 13
       number-13 (refused q) e = ap refused e
       number-13 (got T) e = absurd (omega (arith, e))
+
+  -- so the answer is the table of a shortest and preferred list, or 13 where none satisfies P
+  pub table-or-13 : ((t : List ℕ) × TableOf t) ⊎ ((plan file work table .number ≡ 13) × ((t : List ℕ) → SatisfiesP n (f .needs) (f .limit) t → ⊥))
+  unfolding tabled
+  table-or-13 = go (best n (keptb (f .needs)) (f .limit)) refl
+    where
+      go : (o : Option (List ℕ)) → best n (keptb (f .needs)) (f .limit) ≡ o
+          → ((t : List ℕ) × TableOf t) ⊎ ((plan file work table .number ≡ 13) × ((t : List ℕ) → SatisfiesP n (f .needs) (f .limit) t → ⊥))
+      go none e = let h = best-none n (f .needs) (f .limit) (ok .distinct) needs-in (ok .limit-in .0) .0 e in inr (answers-13 .1 h, h)
+      go (some t) e = inl (t, table-of t (best-found n (f .needs) (f .limit) (ok .distinct) needs-in (ok .limit-in .0) t e) (asked-13 f ok free narrow ∙ ap (tabled f) e))
+
+  -- "the planner writes a table exactly when some start list that satisfies P fits the limit"
+  pub writes-exactly : (plan file work table .number ≡ 0) ↔ ((u : List ℕ) × SatisfiesP n (f .needs) (f .limit) u)
+  writes-exactly = (go table-or-13, λ w. ap (λ (o : Outcome). o .number) (writes-table (w .0) (w .1) .1 .answer))
+    where
+      go : ((t : List ℕ) × TableOf t) ⊎ ((plan file work table .number ≡ 13) × ((t : List ℕ) → SatisfiesP n (f .needs) (f .limit) t → ⊥))
+          → plan file work table .number ≡ 0 → (u : List ℕ) × SatisfiesP n (f .needs) (f .limit) u
+      go (inl (t, w)) z =
+          let s = w .shortest in
+          let k = kept-of t s in
+          (t, program-is n (f .needs) (f .limit) t (ok .distinct) needs-in .1 (k .0, slots-fits n (f .limit) t (k .1 .len) (s .fits)))
+      go (inr (q, none)) z = absurd (omega (arith, q, z))
 
 -- ---- every table written, whatever the file
 
@@ -164,6 +189,7 @@ module _ (file work table : List ℕ) where
       pub file-read : JobFile
       pub read : readFile file ≡ got file-read
       pub list : List ℕ
+      pub planned : Shortest (length (file-read .jobs)) (file-read .needs) (file-read .limit) list
       pub bytes-are : take (o .length) (o .table) ≡ encode (tableOf file-read list)
       pub passes : check file (encode (tableOf file-read list)) ≡ got (tableOf file-read list)
       pub starts-back : starts (tableOf file-read list) ≡ list
@@ -182,6 +208,7 @@ module _ (file work table : List ℕ) where
           file-read = f;
           read = r .1;
           list = w .list;
+          planned = w .short;
           bytes-are = take-at (encode T) (drop (length (encode T)) table) (length (encode T)) refl ∙ ap encode (w .table-is);
           passes = check-exactly file bytes f (r .1) (w .no-circle) (encode (tableOf f (w .list))) (tableOf f (w .list)) .1 (reads-back f ok (w .no-circle) (w .narrow) (w .list) (w .short), fits);
           starts-back = starts-are f ok (w .no-circle) (w .narrow) (w .list) (w .short);

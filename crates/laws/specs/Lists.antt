@@ -3,11 +3,12 @@ use mathlib.Core.Path.{_≡_, refl, sym, ap, ap₂, _∙_}
 use mathlib.Core.Logic.{_⊎_, inl, inr}
 use mathlib.Core.Bool.{Bool, true, false, _||_, or-false, or-assoc}
 use mathlib.Core.List.{List, [], _∷_, _++_, map, List·Memᴰ, List·Memᴰ·head, List·Memᴰ·tail, List·Memᴰ·cases-cons, List·Memᴰ·not-nil}
-use Prim.Native.Nat.{ℕ, zero, suc, _+_, _≤_, _<_}
+use Prim.Native.Nat.{ℕ, zero, suc, _+_, _-_, _≤_, _<_}
 use native.Mathlib.Omega.{arith}
 use native.Mathlib.Decide.{ℕ-discrete}
 use native.Mathlib.Nat.{add-zero, zero-add}
-use lib.ListN.{length, getD, replicate}
+use lib.ListN.{length, getD, take, drop, replicate, length-drop}
+use lib.Seq.{take-all}
 use lib.Dec.{T}
 use Rattle.rules.specs.Basics.{choose, at, any, has, filter, range, tabulate}
 use Rattle.laws.specs.Tests.{T-has, by-test}
@@ -136,6 +137,11 @@ pub zeros-at : (n i : ℕ) → at (replicate n 0) i ≡ 0
 zeros-at zero i = refl
 zeros-at (suc n) zero = refl
 zeros-at (suc n) (suc i) = zeros-at n i
+
+-- ---- what is left behind the first k entries
+
+pub take-rest : {A : Type 0} (k : ℕ) (l : List A) → take (length l - k) (drop k l) ≡ drop k l
+take-rest k l = take-all (length l - k) (drop k l) (simp length-drop (omega arith))
 
 -- ---- one entry more at the end
 

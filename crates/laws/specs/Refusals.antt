@@ -116,6 +116,19 @@ check-passes file table = (not-refused CheckNumber (check file table) (check-num
     not-zero q (inl p) z = omega arith
     not-zero q (inr p) z = omega arith
 
+-- no number is greater than 18
+pub check-most : (file table : List ℕ) → numberOf (check file table) ≤ 18
+unfolding numberOf Refusal
+check-most file table = of (check file table) (check-number file table)
+  where
+    most : (q : ℕ) → CheckNumber q → q ≤ 18
+    most q (inl p) = omega arith
+    most q (inr p) = p .1
+
+    of : (x : Answer Table) → Refusal CheckNumber x → numberOf x ≤ 18
+    of (refused q) h = most q h
+    of (got t) h = omega arith
+
 -- ---- the lookup
 
 -- "The lookup .. asks 14 .., 16 .. and 17"

@@ -7,7 +7,6 @@ use native.Mathlib.Omega.{arith}
 use native.Mathlib.Decide.{decLt}
 use borrow.Author.Tests.{eq-eqb, ne-eqb, le-leb, lt-leb}
 use lib.ListN.{length, take, drop, length-drop}
-use lib.Seq.{take-all}
 use lib.Dec.{T, leb, eqb}
 use lib.IntN.{ℤ}
 use Rattle.rules.specs.Basics.{at, all, range, largest}
@@ -33,10 +32,6 @@ same-word z w h l =
     bool-ext (eqb (unsigned z) w) (eqℤ z (signed w))
     (λ t. T-eqℤ z (signed w) .1 (sym (signed-unsigned z h .0) ∙ ap signed (T-eqb (unsigned z) w .0 t)))
     (λ t. T-eqb (unsigned z) w .1 (ap unsigned (T-eqℤ z (signed w) .0 t) ∙ unsigned-signed w l .0))
-
--- the part of a list from entry k to its end
-pub rest : (k : ℕ) (l : List ℕ) → take (length l - k) (drop k l) ≡ drop k l
-rest k l = take-all (length l - k) (drop k l) (simp length-drop (omega arith))
 
 module _ (job row : List ℕ) where
   pub other-name : sameName (drop 2 job) (drop 4 row) ≡ false → false ≡ labelledBy job row

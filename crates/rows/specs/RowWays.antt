@@ -13,11 +13,11 @@ use Rattle.rules.specs.Basics.{at, all}
 use Rattle.rules.specs.Fields.{fieldEnd, value, whole}
 use Rattle.rules.specs.JobFile.{nameByte, nameOk}
 use Rattle.rules.specs.Table.{headOk}
+use Rattle.laws.specs.Lists.{take-rest}
 use Rattle.laws.specs.Tests.{T-and, T-leb, T-eqb, T-true, choose-yes, choose-no}
 use Rattle.laws.specs.Fields.{whole-is, after-head, length-value}
 use Rattle.rows.specs.declared.RowAnswer.the-variants.{Row, Refused}
 use Rattle.rows.specs.Rows.{isRow, rowAnswer}
-use Rattle.questions.specs.QuestionLaws.{rest}
 
 -- ---- the head
 
@@ -114,7 +114,7 @@ module _ (bs : List ℕ) (a : ℕ) where
 
     -- its name, behind the level
     name-part : drop 2 (take (length v - 2) (drop 2 v)) ≡ drop 4 (value bs a)
-    name-part = ap (drop 2) (rest 2 v) ∙ drop-drop 2 2 v ∙ ap (drop 4) v-is
+    name-part = ap (drop 2) (take-rest 2 v) ∙ drop-drop 2 2 v ∙ ap (drop 4) v-is
 
     pub bad-name : all nameByte (drop 2 (take (length v - 2) (drop 2 v))) ≡ false → Refused ≡ rowAnswer bs a
     bad-name e = no-row (λ r. rw (sym (ap (all nameByte) name-part) ∙ e) at (r .name))

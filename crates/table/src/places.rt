@@ -1,11 +1,11 @@
 // The lookup: what a board does in a slot, and the name of the job.
+use fields::index;
+use fields::value_at;
+use fields::wide;
 use questions::apart;
 use questions::sized;
 use rows::Rows;
 use rows::read_rows;
-use fields::index;
-use fields::value_at;
-use fields::wide;
 ghost use mathlib.Core.Path.{_≡_};
 ghost use mathlib.Core.Bool.{_&&_};
 ghost use Prim.Native.Nat.{_≤_};

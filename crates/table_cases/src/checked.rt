@@ -76,7 +76,7 @@ pub const TABLE: [u8; 30] = [
 ];
 
 // A line with a number.
-pub fn show(label: &[u8], number: u32) {
+pub(crate) fn show(label: &[u8], number: u32) {
     io::write_all(STDOUT_FILENO, label);
     io::write_all(STDOUT_FILENO, b": ");
     io::print_decimal(STDOUT_FILENO, number as u64);
@@ -226,7 +226,7 @@ fn files() {
     );
 }
 
-pub fn all() {
+pub(crate) fn all() {
     check(b"the example", &TABLE);
     decoding();
     sizes();

@@ -100,7 +100,7 @@ fn wide() {
     answers(b"nine jobs without needs in two slots", &file, n, &table, m);
 }
 
-pub fn all() {
+pub(crate) fn all() {
     chain(b"a chain of 64", 64, 64, 64);
     chain(b"7 a chain of 65", 65, 65, 65);
     chain(b"14 a chain of 64, 65 rows", 64, 65, 65);

@@ -19,7 +19,7 @@ fn other(label: &[u8], table: &[u8]) {
     show(b"  name at", gate::gate_name_at(table, 0, 1));
 }
 
-pub fn all() {
+pub(crate) fn all() {
     at(b"job 1", 0, 1);
     at(b"job 2", 0, 2);
     at(b"job 3", 2, 1);

@@ -1,0 +1,84 @@
+-- `commands::check_table` meets its contract. Assumes nothing.
+use native.Mathlib.Omega.{arith}
+use Rattle.gate.specs.Laws.{verdict-most}
+use borrow.Author.Needs.{needs}
+use Rattle.commands.proofs.check_table.Statement.{statement}
+use Rattle.commands.proofs.check_table.Tie as tie
+
+arg-count-requires : tie.Need-arg-count-requires
+arg-count-requires c κs = search needs
+
+slice-aggregate-write-all : tie.Need-slice-aggregate-write-all
+slice-aggregate-write-all c = search needs
+
+write-all-requires : tie.Need-write-all-requires
+write-all-requires c κs = search needs
+
+returns : tie.Need-returns
+returns c = search needs
+
+buffer-requires : tie.Need-buffer-requires
+buffer-requires c κs = search needs
+
+slice-aggregate-read-argument : tie.Need-slice-aggregate-read-argument
+slice-aggregate-read-argument c = search needs
+
+read-argument-requires : tie.Need-read-argument-requires
+read-argument-requires c κs = search needs
+
+returns-2 : tie.Need-returns-2
+returns-2 c = search needs
+
+slice-aggregate-read-argument-2 : tie.Need-slice-aggregate-read-argument-2
+slice-aggregate-read-argument-2 c = search needs
+
+read-argument-requires-2 : tie.Need-read-argument-requires-2
+read-argument-requires-2 c κs = search needs
+
+returns-3 : tie.Need-returns-3
+returns-3 c = search needs
+
+array-share-prefix-file : tie.Need-array-share-prefix-file
+array-share-prefix-file c = search needs
+
+slice-aggregate-check : tie.Need-slice-aggregate-check
+slice-aggregate-check c = search needs
+
+array-share-prefix-table : tie.Need-array-share-prefix-table
+array-share-prefix-table c = search needs
+
+slice-aggregate-check-2 : tie.Need-slice-aggregate-check-2
+slice-aggregate-check-2 c = search needs
+
+check-requires : tie.Need-check-requires
+check-requires c κs = search needs
+
+print-verdict-requires : tie.Need-print-verdict-requires
+print-verdict-requires c κs = search needs
+
+returns-4 : tie.Need-returns-4
+returns-4 c =
+    omega (arith, c .print-verdict .ensures, verdict-most _ _ _ (c .before .check .ensures))
+
+pub check-table-spec : {M : Type 1} → statement M
+check-table-spec =
+    tie.close
+    (tie.spec
+    arg-count-requires
+    slice-aggregate-write-all
+    write-all-requires
+    returns
+    buffer-requires
+    slice-aggregate-read-argument
+    read-argument-requires
+    returns-2
+    slice-aggregate-read-argument-2
+    read-argument-requires-2
+    returns-3
+    array-share-prefix-file
+    slice-aggregate-check
+    array-share-prefix-table
+    slice-aggregate-check-2
+    check-requires
+    print-verdict-requires
+    returns-4)
