@@ -1,5 +1,6 @@
 -- What one turn and the end of each loop of the placing give: what is still to come equals what was to come before. Assumes nothing.
 use mathlib.Core.Path.{_≡_, refl, ap}
+use mathlib.Core.Bool.{Bool, true, false}
 use mathlib.Core.List.{List, []}
 use Prim.Native.Nat.{ℕ, suc, _+_, _-_, _≤_, _<_, max}
 use native.Mathlib.Numerals.{add-one}
@@ -7,8 +8,8 @@ use native.Mathlib.Omega.{arith}
 use lib.ListN.{length, set}
 use Rattle.rules.specs.Basics.{at, most}
 use Rattle.jobset.specs.declared.Set.{Set}
-use Rattle.jobset.specs.Sets.{setAt, with, without, lowest, falling}
-use Rattle.jobset.specs.Highest.{FallingTurn, falling-without}
+use Rattle.jobset.specs.Sets.{setAt, with, without, isEmpty, lowest, falling}
+use Rattle.jobset.specs.Highest.{FallingTurn, falling-end, falling-without}
 use Rattle.boards.specs.Placing.{each, placeSlot, slotSets, placeSlots, boardNumber, numbered}
 use Rattle.boards.specs.Bounds.{lowest-left}
 use Rattle.boards.specs.Filled.{filled-next, filled-later}
@@ -23,12 +24,20 @@ pub each-end : {A : Type 0} (f : ℕ → A → A) (rest : Set) (z : A) → falli
 unfolding each
 each-end f rest z e = rw e
 
+-- a set with members is not empty
+not-empty : (s : Set) → 0 < length (falling s) → isEmpty s ≡ false
+not-empty s h = go (isEmpty s) refl
+  where
+    go : (b : Bool) → b ≡ isEmpty s → b ≡ false
+    go true e = absurd (omega (arith, ap length (falling-end s true e refl)))
+    go false e = refl
+
 -- a board is left for the job, and enough for those after it
 pub lowest-room : (rest : Set) (p : ℕ) (free : Set) → FallingTurn rest p → length (falling rest) ≤ length (falling free)
-    → (lowest free < 64) × (length (falling (without rest p)) ≤ length (falling (without free (lowest free))))
+    → (lowest free < 64) × (isEmpty free ≡ false) × (length (falling (without rest p)) ≤ length (falling (without free (lowest free))))
 lowest-room rest p free t h =
     let e = ap length (t .first) in
-    (lowest-left free (omega arith), omega (arith, falling-without free (lowest free)))
+    (lowest-left free (omega arith), not-empty free (omega arith), omega (arith, falling-without free (lowest free)))
 
 -- ---- the slots
 

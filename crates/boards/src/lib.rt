@@ -101,7 +101,7 @@ fn take_lowest(z: Inherited, boards: &mut [u8; 64])
         rest = rest.without(p);
         let c = free.lowest() as usize;
         boards[p] = c as u8;
-        free = free.without(c);
+        free = free.rest();
     }
 }
 

@@ -2,7 +2,6 @@
 pub mod Slot
 pub mod Model
 pub mod CandidateLaws
-pub mod FirstHit
 pub mod Codes
 pub mod Steps
 pub mod States

@@ -33,7 +33,7 @@ fn code_of(held: Set, done: Set, last: Set) -> usize
     while !rest.is_empty() {
         let i = rest.lowest() as usize;
         code = code * 3 + (done.digit(i) + last.digit(i));
-        rest = rest.without(i);
+        rest = rest.rest();
     }
     code
 }
@@ -101,7 +101,7 @@ fn candidates_of(givers: &[u64; 64], free: Set, done: Set, last: Set) -> Candida
     while !rest.is_empty() {
         let i = rest.lowest() as usize;
         candidates = sort_job(candidates, Set { bits: givers[i] }, done, last, i);
-        rest = rest.without(i);
+        rest = rest.rest();
     }
     candidates
 }
@@ -139,7 +139,7 @@ fn is_exact(takers: &[u64; 64], tying: Set, subset: Set) -> bool
         if !near.is_one() {
             return false;
         }
-        rest = rest.without(i);
+        rest = rest.rest();
     }
     true
 }
@@ -158,20 +158,21 @@ fn is_lost(followed: &[u64; 66], left: usize, done: Set) -> bool
 }
 
 // The preferred plan from slot `slot` on, with `left` slots left: whether there is one, and its sets in `path`.
-// `dead` has the marks of the states that were found to have none.
+// `dead` has the marks of the states that were found to have none. What every call reads comes first: the first parameters
+// travel in registers.
 pub fn explore(
     givers: &[u64; 64],
-    takers: &[u64; 64],
-    released: &[u64; 66],
     followed: &[u64; 66],
     dead: &mut [u8],
-    path: &mut [u64],
-    left: usize,
-    slot: usize,
     done: Set,
     last: Set,
+    left: usize,
+    slot: usize,
+    released: &[u64; 66],
+    takers: &[u64; 64],
+    path: &mut [u64; 64],
 ) -> bool
-    requires { ⌜ (52488 ≤ length (now dead)) × (left + slot ≤ 64) × (left + slot ≤ length (now path)) × Narrow (now released) (now followed) (left + slot) ⌝ }
+    requires { ⌜ (52488 ≤ length (now dead)) × (left + slot ≤ 64) × Narrow (now released) (now followed) (left + slot) ⌝ }
     ensures found { λ r. ⌜ r ≡ explored (tables (now (givers .entry)) (now (takers .entry)) (now (released .entry)) (now (followed .entry))) left slot done last (now (dead .entry)) .plan .ok ⌝ }
     ensures path { λ _. ⌜ now (path .exit) ≡ written slot (explored (tables (now (givers .entry)) (now (takers .entry)) (now (released .entry)) (now (followed .entry))) left slot done last (now (dead .entry)) .plan .sets) (now (path .entry)) ⌝ }
     ensures dead { λ _. ⌜ now (dead .exit) ≡ explored (tables (now (givers .entry)) (now (takers .entry)) (now (released .entry)) (now (followed .entry))) left slot done last (now (dead .entry)) .dead ⌝ }
@@ -187,28 +188,25 @@ pub fn explore(
         return false;
     }
     let candidates = candidates_at(givers, released, followed, left, slot, done, last);
-    let forced = candidates.forced;
-    let tied = candidates.tied;
-    let tying = candidates.tying;
-    let mut subset = tied;
+    let mut subset = candidates.tied;
     let mut more = true;
     while more {
         let tried = subset;
         more = !tried.is_empty();
-        subset = tried.next_below(tied);
-        if is_exact(takers, tying, tried) {
-            let jobs = forced.union(tried);
+        subset = tried.next_below(candidates.tied);
+        if is_exact(takers, candidates.tying, tried) {
+            let jobs = candidates.forced.union(tried);
             if explore(
                 givers,
-                takers,
-                released,
                 followed,
                 dead,
-                path,
-                left - 1,
-                slot + 1,
                 done.union(jobs),
                 jobs,
+                left - 1,
+                slot + 1,
+                released,
+                takers,
+                path,
             ) {
                 path[slot] = jobs.bits;
                 return true;

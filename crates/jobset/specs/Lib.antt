@@ -9,6 +9,7 @@ pub mod FallingSubsets
 pub mod OneMember
 pub mod Lowest
 pub mod Members
+pub mod Rest
 pub mod Size
 pub mod Highest
 pub mod Arrays

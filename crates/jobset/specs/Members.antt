@@ -71,7 +71,7 @@ lowest-from (suc k) i s m a b = go (λ x y. lowest-from k (suc i) s m x y) (ℕ-
         rw (f, g) (ih (omega arith) (omega arith))
 
 -- a set without one of its members has a smaller number: the measure of a loop
-without-less : (s : Set) (i : ℕ) → member s i ≡ true → without s i .bits < s .bits
+pub without-less : (s : Set) (i : ℕ) → member s i ≡ true → without s i .bits < s .bits
 without-less s i m = greater-iff s (without s i) .1 (record {
   place = i;
   is-in = m;
@@ -83,6 +83,8 @@ without-less s i m = greater-iff s (without s i) .1 (record {
 
 -- what is known in a turn that takes the place i out of s
 pub record Turn (s : Set) (i : ℕ) : Type 0 where
+  pub not-empty : isEmpty s ≡ false
+  pub is-lowest : without s (lowest s) ≡ without s i
   pub below-64 : i < 64
   pub is-member : member s i ≡ true
   pub first : members s ≡ i ∷ members (without s i)
@@ -92,8 +94,11 @@ pub record Turn (s : Set) (i : ℕ) : Type 0 where
 pub turn : (s : Set) (b : Bool) (i : ℕ) → s .bits < 2 ^ 64 → b ≡ isEmpty s → not b ≡ true → i ≡ lowest s → Turn s i
 unfolding members
 turn s b i h e n l =
-    let m = lowest-member s h (sym e ∙ not-true b n) in
+    let o = sym e ∙ not-true b n in
+    let m = lowest-member s h o in
     rw (l) (record {
+      not-empty = o;
+      is-lowest = refl;
       below-64 = m .0;
       is-member = m .1;
       first = lowest-from 64 0 s (m .1) (omega arith) (omega arith);

@@ -43,6 +43,16 @@ impl Set {
         }
     }
 
+    // This set but its lowest member.
+    pub fn rest(self) -> Set
+        requires { ⌜ isEmpty self ≡ false ⌝ }
+        ensures { λ r. ⌜ r ≡ without self (lowest self) ⌝ }
+    {
+        Set {
+            bits: self.bits & (self.bits - 1),
+        }
+    }
+
     // Is i a member?
     pub fn has(self, i: usize) -> bool
         requires { ⌜ i < 64 ⌝ }

@@ -126,7 +126,7 @@ module _ (file work table : List ℕ) (bytes : Bytes file) (work-full : workSize
           let s = w .shortest in
           let k = kept-of t s in
           (t, program-is n (f .needs) (f .limit) t (ok .distinct) needs-in .1 (k .0, slots-fits n (f .limit) t (k .1 .len) (s .fits)))
-      go (inr (q, none)) z = absurd (omega (arith, q, z))
+      go (inr (q, h)) z = absurd (omega (arith, q, z))
 
 -- ---- every table written, whatever the file
 

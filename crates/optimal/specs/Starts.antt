@@ -87,7 +87,7 @@ unfolding written
 length-written s [] l = refl
 length-written s (x ∷ sets) l = length-set (written (s + 1) sets l) s x ∙ length-written (s + 1) sets l
 
--- the sets written over zeros-at
+-- the sets written over zeros
 at-written : (s : ℕ) (sets l : List ℕ) → ((y : ℕ) → at l y ≡ 0) → (y : ℕ) → s ≤ y → y < length l → at (written s sets l) y ≡ at sets (y - s)
 unfolding written
 at-written s [] l z y a b = z y

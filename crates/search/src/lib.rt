@@ -25,7 +25,7 @@ fn start_all(starts: &mut [u8; 64], jobs: Set, slot: usize)
     while !rest.is_empty() {
         let i = rest.lowest() as usize;
         starts[i] = slot as u8;
-        rest = rest.without(i);
+        rest = rest.rest();
     }
 }
 
@@ -65,15 +65,15 @@ pub fn search(
         bitmap::clear(dead, (slots * 6561 + 7) / 8);
         if explore::explore(
             givers,
-            takers,
-            released,
             followed,
             dead,
-            &mut path,
+            Set::EMPTY,
+            Set::EMPTY,
             slots,
             0,
-            Set::EMPTY,
-            Set::EMPTY,
+            released,
+            takers,
+            &mut path,
         ) {
             let starts = starts_to(&path, slots);
             return Found { slots, starts };

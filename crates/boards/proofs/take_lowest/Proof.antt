@@ -63,9 +63,9 @@ element-write-boards : tie.Need-element-write-boards Inv-loop μ-loop
 element-write-boards c =
     omega (arith, turned (c .before .before) .highest-there .below-64)
 
-without-requires-2 : tie.Need-without-requires-2 Inv-loop μ-loop
-without-requires-2 c κs =
-    left-one c
+rest-requires : tie.Need-rest-requires Inv-loop μ-loop
+rest-requires c κs =
+    lowest-room _ _ _ (turned (c .before .before)) (c .before .before .before .before .before .loop .inv .1) .1
 
 loop-less : tie.Need-loop-less Inv-loop μ-loop
 loop-less c =
@@ -76,8 +76,8 @@ unfolding takeLowest takes
 loop-again c =
     let l = c .before .before .before .before .before .before .loop in (
       search needs,
-      rw (c .before .before .without .ensures, c .without2 .ensures, c .before .lowest .ensures) (lowest-room _ _ _ (turned (c .before .before .before)) (l .inv .1) .1),
-      rw (c .before .before .without .ensures, c .without2 .ensures, c .before .lowest .ensures) (each-turn takeLowest _ _ _ _ (turned (c .before .before .before)) refl ∙ l .inv .2),
+      rw (c .before .before .without .ensures, c .rest2 .ensures) (lowest-room _ _ _ (turned (c .before .before .before)) (l .inv .1) .2),
+      rw (c .before .before .without .ensures, c .rest2 .ensures, c .before .lowest .ensures) (each-turn takeLowest _ _ _ _ (turned (c .before .before .before)) refl ∙ l .inv .2),
     )
 
 returns : tie.Need-returns Inv-loop μ-loop
@@ -101,7 +101,7 @@ take-lowest-spec =
     cast-c
     cast-boards
     element-write-boards
-    without-requires-2
+    rest-requires
     loop-less
     loop-again
     returns)

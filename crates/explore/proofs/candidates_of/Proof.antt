@@ -43,11 +43,11 @@ element-copy-out-t17 c = omega (arith, turned c .below-64)
 sort-job-requires : tie.Need-sort-job-requires Inv-loop μ-loop
 sort-job-requires c κs = turned (c .before) .below-64
 
-without-requires : tie.Need-without-requires Inv-loop μ-loop
-without-requires c κs = turned (c .before .before) .below-64
+rest-requires : tie.Need-rest-requires Inv-loop μ-loop
+rest-requires c κs = turned (c .before .before) .not-empty
 
 loop-less : tie.Need-loop-less Inv-loop μ-loop
-loop-less c = rw (c .without .ensures) (turned (c .before .before .before) .less)
+loop-less c = rw (c .rest .ensures ∙ turned (c .before .before .before) .is-lowest) (turned (c .before .before .before) .less)
 
 loop-again : tie.Need-loop-again Inv-loop μ-loop
 unfolding sortJobs
@@ -55,7 +55,7 @@ loop-again c =
     let l = c .before .before .before .before .before .before .loop in
     let a = c .before .before .before .before .before .before .before .args in (
       search needs,
-      rw (c .without .ensures, c .before .sort-job .ensures)
+      rw (c .rest .ensures ∙ turned (c .before .before .before) .is-lowest, c .before .sort-job .ensures)
           (sym (ap (sortJobs (a .givers .now) (a .done) (a .last) (l .candidates)) (turned (c .before .before .before) .first)) ∙ l .inv .1),
     )
 
@@ -69,4 +69,4 @@ returns c =
 pub candidates-of-spec : {M : Type 1} → statement M
 candidates-of-spec =
     tie.close
-    (tie.spec Inv-loop μ-loop loop-holds is-empty-requires lowest-requires cast-i mul-t14 element-copy-out-t17 sort-job-requires without-requires loop-less loop-again returns)
+    (tie.spec Inv-loop μ-loop loop-holds is-empty-requires lowest-requires cast-i mul-t14 element-copy-out-t17 sort-job-requires rest-requires loop-less loop-again returns)

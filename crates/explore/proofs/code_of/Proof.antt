@@ -6,7 +6,7 @@ use mathlib.Core.Path.{_≡_, refl, sym, ap, _∙_}
 use Prim.Native.Nat.{ℕ, suc, _+_, _<_, _≤_, _^_}
 use lib.Dec.{lit<}
 use lib.ListN.{length}
-use Rattle.jobset.specs.Sets.{members, without}
+use Rattle.jobset.specs.Sets.{members}
 use Rattle.jobset.specs.Digits.{digit-lt}
 use Rattle.jobset.specs.Members.{Turn, turn, end}
 use Rattle.explore.specs.Model.{coded, codeOf}
@@ -64,11 +64,11 @@ add-code c = omega (arith, digits c)
 add-code-2 : tie.Need-add-code-2 Inv-loop μ-loop
 add-code-2 c = omega (arith, small (c .before .before), digits c)
 
-without-requires : tie.Need-without-requires Inv-loop μ-loop
-without-requires c κs = turned (c .before .before) .below-64
+rest-requires : tie.Need-rest-requires Inv-loop μ-loop
+rest-requires c κs = turned (c .before .before) .not-empty
 
 loop-less : tie.Need-loop-less Inv-loop μ-loop
-loop-less c = rw (c .without .ensures) (turned (c .before .before .before) .less)
+loop-less c = rw (c .rest .ensures ∙ turned (c .before .before .before) .is-lowest) (turned (c .before .before .before) .less)
 
 loop-again : tie.Need-loop-again Inv-loop μ-loop
 unfolding coded
@@ -79,8 +79,8 @@ loop-again c =
     let v = l .inv .2 in
     let d = digits (c .before) in (
       search needs,
-      rw (c .without .ensures, c .before .digit2 .ensures, c .before .before .digit .ensures) (sym (ap (coded (a .done) (a .last) (l .code)) (t .first)) ∙ l .inv .1),
-      (suc (v .0), rw (c .without .ensures) (omega (arith, ap length (t .first))), more-lt (v .0) (l .code) (c .before .before .digit .result + c .before .digit2 .result) (v .2) (omega arith)),
+      rw (c .rest .ensures ∙ t .is-lowest, c .before .digit2 .ensures, c .before .before .digit .ensures) (sym (ap (coded (a .done) (a .last) (l .code)) (t .first)) ∙ l .inv .1),
+      (suc (v .0), rw (c .rest .ensures ∙ t .is-lowest) (omega (arith, ap length (t .first))), more-lt (v .0) (l .code) (c .before .before .digit .result + c .before .digit2 .result) (v .2) (omega arith)),
     )
 
 returns : tie.Need-returns Inv-loop μ-loop
@@ -104,7 +104,7 @@ code-of-spec =
     digit-requires-2
     add-code
     add-code-2
-    without-requires
+    rest-requires
     loop-less
     loop-again
     returns)

@@ -68,14 +68,14 @@ is-one-requires c κs = tt
 returns : tie.Need-returns Inv-loop μ-loop
 returns c = rw (not-true (c .before .is-one .result) (c .if2 .taken)) at (split (c .before)) ∙ c .before .before .before .before .before .before .before .loop .inv .1
 
-without-requires : tie.Need-without-requires Inv-loop μ-loop
-without-requires c κs = turned (c .before .before .before .before) .below-64
+rest-requires : tie.Need-rest-requires Inv-loop μ-loop
+rest-requires c κs = turned (c .before .before .before .before) .not-empty
 
 loop-less : tie.Need-loop-less Inv-loop μ-loop
-loop-less c = rw (c .without .ensures) (turned (c .before .before .before .before .before) .less)
+loop-less c = rw (c .rest .ensures ∙ turned (c .before .before .before .before .before) .is-lowest) (turned (c .before .before .before .before .before) .less)
 
 loop-again : tie.Need-loop-again Inv-loop μ-loop
-loop-again c = (search needs, rw (c .without .ensures) (rw (not-false (c .before .before .is-one .result) (c .before .if2 .left)) at (split (c .before .before)) ∙ c .before .before .before .before .before .before .before .before .loop .inv .1))
+loop-again c = (search needs, rw (c .rest .ensures ∙ turned (c .before .before .before .before .before) .is-lowest) (rw (not-false (c .before .before .is-one .result) (c .before .if2 .left)) at (split (c .before .before)) ∙ c .before .before .before .before .before .before .before .before .loop .inv .1))
 
 returns-2 : tie.Need-returns-2 Inv-loop μ-loop
 unfolding all
@@ -98,7 +98,7 @@ is-exact-spec =
     intersection-requires
     is-one-requires
     returns
-    without-requires
+    rest-requires
     loop-less
     loop-again
     returns-2)

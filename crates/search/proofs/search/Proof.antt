@@ -1,7 +1,6 @@
 -- `search::search` meets its contract: before each turn, the shortest list of the lengths that are left is that of all lengths.
 -- Each search begins with the part of the bitmap in use cleared, so it gives its length's plan, whatever the bitmap held.
 -- Assumes nothing.
-use borrow.Author.Needs.{needs}
 use native.Mathlib.Nat.{add-zero}
 use native.Mathlib.Omega.{arith}
 use mathlib.Core.Path.{_≡_, refl, sym, ap, ap₂, subst, _∙_}
@@ -63,38 +62,33 @@ add-clear c = omega (arith, c .before .before .before .before .pre .1, c .before
 clear-requires : tie.Need-clear-requires Inv-loop μ-loop
 clear-requires c κs = omega (arith, c .before .before .before .before .pre .0, c .before .before .before .before .pre .1, c .before .loop-test .taken, c .before .before .loop .inv .0)
 
-slice-aggregate-explore : tie.Need-slice-aggregate-explore Inv-loop μ-loop
-slice-aggregate-explore c = let n : length (c .before .before .before .before .before .before .before .loop .path) ≡ 64 = ap length (c .before .before .before .before .before .before .before .loop .inv .1) in search needs
-
 explore-requires : tie.Need-explore-requires Inv-loop μ-loop
 explore-requires c κs =
     let l = c .before .before .before .before .before .before .before .loop in
     let a = c .before .before .before .before .before .before .before .before .before .args in
     let p = c .before .before .before .before .before .before .before .before .before .pre in
     let h = c .before .before .before .before .before .before .loop-test .taken in
-    let k : length (c .before .before .before .before .clear .last .0) ≡ length (l .dead) = c .before .before .before .before .clear .kept .0 in
-    let m : length (l .path) ≡ 64 = ap length (l .inv .1) in (
+    let k : length (c .before .before .before .before .clear .last .0) ≡ length (l .dead) = c .before .before .before .before .clear .kept .0 in (
       rw (k, l .inv .0) (p .0),
-      omega (arith, p .1),
       omega (arith, p .1),
       subst (Narrow (a .released .now) (a .followed .now)) (sym (add-zero (l .next))) (fit (c .before .before .before .before .before .before) .narrow),
     )
 
 starts-to-requires : tie.Need-starts-to-requires Inv-loop μ-loop
-starts-to-requires c κs = omega (arith, c .before .before .before .before .before .before .before .before .before .before .before .before .loop-test .taken, c .before .before .before .before .before .before .before .before .before .before .before .before .before .before .before .pre .1)
+starts-to-requires c κs = omega (arith, c .before .before .before .before .before .before .before .before .before .before .before .loop-test .taken, c .before .before .before .before .before .before .before .before .before .before .before .before .before .before .pre .1)
 
 same-length : tie.Need-same-length Inv-loop μ-loop
-same-length c = c .before .before .before .before .before .before .explore .kept .1 .1 .1 .1 .0 ∙ c .before .before .before .before .before .before .before .before .before .before .before .clear .kept .0 ∙ c .before .before .before .before .before .before .before .before .before .before .before .before .before .before .loop .inv .0
+same-length c = c .before .before .before .before .before .explore .kept .1 .1 .0 ∙ c .before .before .before .before .before .before .before .before .before .before .clear .kept .0 ∙ c .before .before .before .before .before .before .before .before .before .before .before .before .before .loop .inv .0
 
 -- the length has a plan
 returns : tie.Need-returns Inv-loop μ-loop
 unfolding foundAt
 returns c =
-    let l = c .before .before .before .before .before .before .before .before .before .before .before .before .before .before .loop in
-    let s = c .before .before .before .before .before .before .before .before .before .before .before .before .before .before .before .before in
-    let q = c .before .before .before .before .before .before .explore .ensures in
-    let e = plan-is (c .before .before .before .before .before .before .before .before .before .before .before) in
-    let h = c .before .before .before .before .before .before .before .before .before .before .before .before .before .loop-test .taken in
+    let l = c .before .before .before .before .before .before .before .before .before .before .before .before .before .loop in
+    let s = c .before .before .before .before .before .before .before .before .before .before .before .before .before .before .before in
+    let q = c .before .before .before .before .before .explore .ensures in
+    let e = plan-is (c .before .before .before .before .before .before .before .before .before .before) in
+    let h = c .before .before .before .before .before .before .before .before .before .before .before .before .loop-test .taken in
     let o : planOf (T s) (l .next) .ok ≡ true = ap (λ (x : Plan). x .ok) (sym e) ∙ sym (q .0) ∙ c .before .before .if1 .taken in
     let p : c .starts-to .result ≡ startsTo (written 0 (planOf (T s) (l .next) .sets) (replicate 64 0)) (l .next) =
     c .starts-to .ensures ∙ ap (λ (x : List ℕ). startsTo x (l .next)) (q .1 .0 ∙ ap₂ (λ (x : Plan) (y : List ℕ). written 0 (x .sets) y) e (l .inv .1)) in
@@ -102,21 +96,21 @@ returns c =
     ∙ sym (shortest-here (T s) (s .args .limit + 1 - l .next) (l .next) (omega arith) o) ∙ l .inv .2
 
 loop-less : tie.Need-loop-less Inv-loop μ-loop
-loop-less c = let h = c .before .before .before .before .before .before .before .before .before .before .before .loop-test .taken in omega arith
+loop-less c = let h = c .before .before .before .before .before .before .before .before .before .before .loop-test .taken in omega arith
 
 -- the length has none
 loop-again : tie.Need-loop-again Inv-loop μ-loop
 unfolding written
 loop-again c =
-    let l = c .before .before .before .before .before .before .before .before .before .before .before .before .loop in
-    let s = c .before .before .before .before .before .before .before .before .before .before .before .before .before .before in
-    let q = c .before .before .before .before .explore .ensures in
-    let e = plan-is (c .before .before .before .before .before .before .before .before .before) in
-    let h = c .before .before .before .before .before .before .before .before .before .before .before .loop-test .taken in
-    let f : explored (T s) (l .next) 0 empty empty (c .before .before .before .before .before .before .before .before .before .clear .last .0) .plan ≡ noPlan = no-sets (T s) (l .next) 0 empty empty (c .before .before .before .before .before .before .before .before .before .clear .last .0) (sym (q .0) ∙ c .if1 .left) in
+    let l = c .before .before .before .before .before .before .before .before .before .before .before .loop in
+    let s = c .before .before .before .before .before .before .before .before .before .before .before .before .before in
+    let q = c .before .before .before .explore .ensures in
+    let e = plan-is (c .before .before .before .before .before .before .before .before) in
+    let h = c .before .before .before .before .before .before .before .before .before .before .loop-test .taken in
+    let f : explored (T s) (l .next) 0 empty empty (c .before .before .before .before .before .before .before .before .clear .last .0) .plan ≡ noPlan = no-sets (T s) (l .next) 0 empty empty (c .before .before .before .before .before .before .before .before .clear .last .0) (sym (q .0) ∙ c .if1 .left) in
     let o : planOf (T s) (l .next) .ok ≡ false = ap (λ (x : Plan). x .ok) (sym e ∙ f) in
     let m : s .args .limit + 1 - (l .next + 1) ≡ s .args .limit + 1 - l .next - 1 = omega arith in (
-      c .before .before .before .before .explore .kept .1 .1 .1 .1 .0 ∙ c .before .before .before .before .before .before .before .before .before .clear .kept .0 ∙ l .inv .0,
+      c .before .before .before .explore .kept .1 .1 .0 ∙ c .before .before .before .before .before .before .before .before .clear .kept .0 ∙ l .inv .0,
       q .1 .0 ∙ ap (λ (x : Plan). written 0 (x .sets) (l .path)) f ∙ l .inv .1,
       ap (λ (k : ℕ). shortest (T s) k (l .next + 1)) m ∙ sym (shortest-next (T s) (s .args .limit + 1 - l .next) (l .next) (omega arith) o) ∙ l .inv .2,
     )
@@ -143,7 +137,6 @@ search-spec =
     mul-clear
     add-clear
     clear-requires
-    slice-aggregate-explore
     explore-requires
     starts-to-requires
     same-length

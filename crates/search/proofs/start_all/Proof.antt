@@ -38,17 +38,17 @@ cast-starts c = search needs
 element-write-starts : tie.Need-element-write-starts Inv-loop μ-loop
 element-write-starts c = omega (arith, turned c .below-64)
 
-without-requires : tie.Need-without-requires Inv-loop μ-loop
-without-requires c κs = turned c .below-64
+rest-requires : tie.Need-rest-requires Inv-loop μ-loop
+rest-requires c κs = turned c .not-empty
 
 loop-less : tie.Need-loop-less Inv-loop μ-loop
-loop-less c = rw (c .without .ensures) (turned (c .before) .less)
+loop-less c = rw (c .rest .ensures ∙ turned (c .before) .is-lowest) (turned (c .before) .less)
 
 loop-again : tie.Need-loop-again Inv-loop μ-loop
 unfolding startAll
 loop-again c =
     let l = c .before .before .before .before .loop in
-    (search needs, rw (c .without .ensures) (sym (ap (startAll (c .before .before .before .before .before .args .slot) (l .starts)) (turned (c .before) .first)) ∙ l .inv .1))
+    (search needs, rw (c .rest .ensures ∙ turned (c .before) .is-lowest) (sym (ap (startAll (c .before .before .before .before .before .args .slot) (l .starts)) (turned (c .before) .first)) ∙ l .inv .1))
 
 returns : tie.Need-returns Inv-loop μ-loop
 unfolding startAll
@@ -58,4 +58,4 @@ returns c =
 
 pub start-all-spec : {M : Type 1} → statement M
 start-all-spec =
-    tie.close (tie.spec Inv-loop μ-loop loop-holds is-empty-requires lowest-requires cast-i cast-starts element-write-starts without-requires loop-less loop-again returns)
+    tie.close (tie.spec Inv-loop μ-loop loop-holds is-empty-requires lowest-requires cast-i cast-starts element-write-starts rest-requires loop-less loop-again returns)
