@@ -2,6 +2,7 @@
 //
 // Jobs are counted from 0 here. In sets, and in every array, job i stands at place 63 - i (crate jobset): so the jobs of a set in
 // rising number are its members from the highest down. Within a slot boards are counted from 0 too: board c is member c of a set.
+use fields::greater;
 use jobset::Set;
 ghost use mathlib.Core.Path.{_≡_};
 ghost use Prim.Native.Nat.{ℕ, _-_, _<_, _≤_, max};
@@ -145,15 +146,6 @@ fn place_slots(givers: &[u64; 64], runs: &[u64; 64], slots: usize, boards: &mut 
     }
 }
 
-fn larger(a: usize, b: usize) -> usize
-    ensures { λ r. ⌜ r ≡ max a b ⌝ }
-{
-    if a < b {
-        return b;
-    }
-    a
-}
-
 // Boards are counted from 1 from here on: gives the largest.
 fn number_boards(boards: &mut [u8; 64], jobs: usize) -> usize
     requires { ⌜ (jobs ≤ 64) × Below64 (now boards) ⌝ }
@@ -165,7 +157,7 @@ fn number_boards(boards: &mut [u8; 64], jobs: usize) -> usize
         let p = 63 - i;
         let c = boards[p] + 1;
         boards[p] = c;
-        count = larger(c as usize, count);
+        count = greater(c as usize, count);
         i += 1;
     }
     count

@@ -1,28 +1,38 @@
 // Numbers and fields of a file: a field is a one-byte tag, a two-byte length and that many value bytes.
 ghost use mathlib.Core.Path.{_≡_};
-ghost use Prim.Native.Nat.{_+_, _<_, _≤_};
+ghost use Prim.Native.Nat.{_+_, _<_, _≤_, max};
 ghost use lib.ListN.{length};
 ghost use lib.Dec.{T};
 ghost use Rattle.rules.specs.Basics.{at};
 ghost use Rattle.rules.specs.Numbers.{word};
 ghost use Rattle.rules.specs.Fields.{value, whole};
 
+// A byte, as a two-byte number.
 fn half(b: u8) -> u16
     ensures { λ r. ⌜ r ≡ b ⌝ }
 {
     b as u16
 }
 
+// A byte, as an index.
 pub fn wide(b: u8) -> usize
     ensures { λ r. ⌜ r ≡ b ⌝ }
 {
     b as usize
 }
 
+// A two-byte number, as an index.
 pub fn index(w: u16) -> usize
     ensures { λ r. ⌜ r ≡ w ⌝ }
 {
     w as usize
+}
+
+// The greater of two numbers.
+pub fn greater(a: usize, b: usize) -> usize
+    ensures { λ r. ⌜ r ≡ max a b ⌝ }
+{
+    if a < b { b } else { a }
 }
 
 // The two-byte number at an offset, low byte first.

@@ -1,6 +1,7 @@
 // The job file, read field by field: questions 2 to 10 of document 01.
 //
 // Jobs are counted from 0 here. In sets, and in the arrays of sets, job i stands at place 63 - i (crate jobset).
+use fields::wide;
 use jobset::Set;
 ghost use mathlib.Core.Path.{_≡_};
 ghost use mathlib.Core.List.{List};
@@ -72,12 +73,6 @@ pub struct JobFile {
     pub offsets: [u16; 64],
     pub givers: [u64; 64],
     pub takers: [u64; 64],
-}
-
-fn wide(b: u8) -> usize
-    ensures { λ r. ⌜ r ≡ b ⌝ }
-{
-    b as usize
 }
 
 // Question 5.

@@ -1,4 +1,5 @@
 // Questions 15 to 18 of a table, over the starts and boards of its rows in number order.
+use fields::greater;
 use fields::index;
 use fields::value_at;
 use fields::wide;
@@ -60,12 +61,6 @@ pub fn labelled(file: &[u8], jobs: &[u16; 64], table: &[u8], rows: &[u16; 64], c
 }
 
 // ---- 16
-
-fn greater(a: usize, b: usize) -> usize
-    ensures { λ r. ⌜ r ≡ max a b ⌝ }
-{
-    if a < b { b } else { a }
-}
 
 // The largest entry; 0 where there is none.
 fn largest_of(list: &[u8]) -> usize

@@ -1,3 +1,4 @@
+-- The rules of document 01, as definitions alone, a file for each subject.
 pub mod Sizes
 pub mod Basics
 pub mod Numbers

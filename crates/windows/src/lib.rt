@@ -1,6 +1,8 @@
 // Question 11 (circles), releases and tails, windows, and the width of question 12.
 //
 // Jobs are counted from 0. In a set, and in an array by place, job i stands at place 63 - i (crate jobset).
+use fields::greater;
+use fields::wide;
 use jobset::Set;
 ghost use mathlib.Core.Path.{_≡_};
 ghost use mathlib.Core.List.{List};
@@ -64,13 +66,6 @@ fn level_by(sets: &[u64; 128], height: usize, givers: Set) -> usize
     0
 }
 
-// A byte as a number.
-fn wide(b: u8) -> usize
-    ensures { λ r. ⌜ r ≡ b ⌝ }
-{
-    b as usize
-}
-
 // The place to look at: the last on the path, or else the lowest that is left.
 fn next_place(path: &[u8; 64], depth: usize, left: Set) -> usize
     requires { ⌜ depth ≤ 64 ⌝ }
@@ -87,13 +82,6 @@ fn one_less(n: usize) -> usize
     ensures { λ r. ⌜ r ≡ n - 1 ⌝ }
 {
     if n == 0 { 0 } else { n - 1 }
-}
-
-// The greater of two numbers.
-fn greater(a: usize, b: usize) -> usize
-    ensures { λ r. ⌜ r ≡ max a b ⌝ }
-{
-    if a < b { b } else { a }
 }
 
 // The levels of the jobs by the arcs, depth first: releases where the arcs of a job are its givers, tails where they are its takers.

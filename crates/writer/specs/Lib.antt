@@ -1,5 +1,4 @@
 -- The bytes that the writer puts (Written), and its laws, each module after those it cites. Assumes nothing.
 pub mod Written
-pub mod ValueAt
 pub mod RowLaws
 pub mod TableLaws

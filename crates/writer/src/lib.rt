@@ -1,42 +1,15 @@
 // Writing the table: its head, then a field for each job in number order.
 //
 // Starts and boards are by place: those of job i, counted from 0, stand at 63 - i.
+use fields::index;
+use fields::value_at;
+use fields::word_at;
 ghost use mathlib.Core.Path.{_≡_};
 ghost use mathlib.Core.List.{_++_};
 ghost use Prim.Native.Nat.{ℕ, _+_, _<_, _≤_};
 ghost use lib.ListN.{length, drop};
-ghost use lib.Dec.{T};
-ghost use Rattle.rules.specs.Fields.{value, whole};
 ghost use Rattle.rules.specs.Table.{rowBytes, encode};
 ghost use Rattle.writer.specs.Written.{headBytes, fixedBytes, rowWith, tableWith, JobFields};
-
-fn wide(b: u8) -> usize
-    ensures { λ r. ⌜ r ≡ b ⌝ }
-{
-    b as usize
-}
-
-fn index(offset: u16) -> usize
-    ensures { λ r. ⌜ r ≡ offset ⌝ }
-{
-    offset as usize
-}
-
-fn word(b: u8) -> u16
-    ensures { λ r. ⌜ r ≡ b ⌝ }
-{
-    b as u16
-}
-
-// The value of the field at offset `at`.
-fn value_at(file: &[u8], at: usize) -> &[u8]
-    requires { ⌜ T (whole (now file) at) ⌝ }
-    ensures { λ r. ⌜ now r ≡ value (now (file .entry)) at ⌝ }
-{
-    let start = at + 3;
-    let end = start + (wide(file[at + 1]) + 256 * wide(file[at + 2]));
-    &file[start..end]
-}
 
 // The field with tag 16: edition 1, slots and boards.
 fn put_head(slots: u8, boards: u8, table: &mut [u8])
@@ -65,7 +38,7 @@ fn put_row(v: &[u8], start: u8, board: u8, table: &mut [u8]) -> usize
     ensures bytes { λ r. ⌜ now (table .exit) ≡ rowBytes (rowWith start board (now (v .entry))) ++ drop r (now (table .entry)) ⌝ }
 {
     let n = v.len();
-    let level = levels::centimetres(word(v[0]) + 256 * word(v[1]));
+    let level = levels::centimetres(word_at(v, 0));
     put_fixed((n + 2) as u8, start, board, level, table);
     let copied = bytes::copy(&v[2..n], &mut table[7..]);
     copied + 7

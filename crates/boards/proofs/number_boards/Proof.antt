@@ -42,12 +42,12 @@ element-write-boards : tie.Need-element-write-boards Inv-loop μ-loop
 element-write-boards c =
     omega arith
 
-cast-larger : tie.Need-cast-larger Inv-loop μ-loop
-cast-larger c =
+cast-greater : tie.Need-cast-greater Inv-loop μ-loop
+cast-greater c =
     omega (arith, board-below (c .before))
 
-larger-requires : tie.Need-larger-requires Inv-loop μ-loop
-larger-requires c κs =
+greater-requires : tie.Need-greater-requires Inv-loop μ-loop
+greater-requires c κs =
     tt
 
 add-i : tie.Need-add-i Inv-loop μ-loop
@@ -60,7 +60,7 @@ loop-less c =
 
 loop-again : tie.Need-loop-again Inv-loop μ-loop
 loop-again c =
-    (omega arith, rw (c .before .before .before .loop .inv .1) (numbered-turn _ _ (omega arith)), rw (c .larger .ensures, c .before .before .before .loop .inv .1, c .before .before .before .loop .inv .2) (most-turn _ _ (omega arith)))
+    (omega arith, rw (c .before .before .before .loop .inv .1) (numbered-turn _ _ (omega arith)), rw (c .greater .ensures, c .before .before .before .loop .inv .1, c .before .before .before .loop .inv .2) (most-turn _ _ (omega arith)))
 
 returns : tie.Need-returns Inv-loop μ-loop
 returns c =
@@ -78,8 +78,8 @@ number-boards-spec =
     element-copy-out-c
     add-c
     element-write-boards
-    cast-larger
-    larger-requires
+    cast-greater
+    greater-requires
     add-i
     loop-less
     loop-again

@@ -1,33 +1,13 @@
 -- `writer::put_row` meets its contract. Assumes nothing.
-use mathlib.Core.Path.{refl, ap₂, _∙_}
-use Prim.Native.Nat.{ℕ, _+_, _*_}
-use native.Mathlib.Omega.{arith}
+use mathlib.Core.Path.{refl, ap, _∙_}
 use borrow.Author.Needs.{needs}
-use Rattle.rules.specs.Numbers.{word}
 use Rattle.levels.specs.Levels.{rounded}
 use Rattle.writer.specs.RowLaws.{row-size, row-put}
 use Rattle.writer.proofs.put_row.Statement.{statement}
 use Rattle.writer.proofs.put_row.Tie as tie
 
-shared-slice-read-word : tie.Need-shared-slice-read-word
-shared-slice-read-word c = search needs
-
-word-requires : tie.Need-word-requires
-word-requires c κs = search needs
-
-shared-slice-read-word-2 : tie.Need-shared-slice-read-word-2
-shared-slice-read-word-2 c = search needs
-
-word-requires-2 : tie.Need-word-requires-2
-word-requires-2 c κs = search needs
-
-mul-centimetres : tie.Need-mul-centimetres
-mul-centimetres c =
-    omega (arith, c .before .shared-slice-known3 .given 1)
-
-add-centimetres : tie.Need-add-centimetres
-add-centimetres c =
-    omega (arith, c .before .shared-slice-known3 .given 1, c .before .before .before .shared-slice-known2 .given 0)
+word-at-requires : tie.Need-word-at-requires
+word-at-requires c κs = search needs
 
 centimetres-requires : tie.Need-centimetres-requires
 centimetres-requires c κs = search needs
@@ -69,20 +49,16 @@ same-length : tie.Need-same-length
 same-length c = search needs
 
 returns : tie.Need-returns
-unfolding word
 returns c =
-    let p = c .before .before .before .before .before .before .before .before .before .before .before .before .before .before .before .before .pre in (row-size _ _ _ (p .0) _ (c .before .before .copy .ensures .0), row-put _ _ _ (p .0) _ _ _ (c .before .before .before .before .before .before .before .before .before .centimetres .result) _ _ _ (p .1) (p .2) (c .before .before .copy .ensures .0) (c .before .before .before .before .before .before .before .before .before .centimetres .ensures ∙ ap₂ (λ (x y : ℕ). rounded (x + 256 * y)) (c .before .before .before .before .before .before .before .before .before .before .before .before .word .ensures) (c .before .before .before .before .before .before .before .before .before .before .word2 .ensures)) (c .before .before .before .before .before .before .before .put-fixed .ensures) refl refl (c .before .before .copy .ensures .1))
+    let p = c .before .before .before .before .before .before .before .before .before .before .before .before .before .pre in
+    let level = c .before .before .before .before .before .before .before .before .before .centimetres .ensures ∙ ap rounded (c .before .before .before .before .before .before .before .before .before .before .word-at .ensures) in
+    (row-size _ _ _ (p .0) _ (c .before .before .copy .ensures .0), row-put _ _ _ (p .0) _ _ _ (c .before .before .before .before .before .before .before .before .before .centimetres .result) _ _ _ (p .1) (p .2) (c .before .before .copy .ensures .0) level (c .before .before .before .before .before .before .before .put-fixed .ensures) refl refl (c .before .before .copy .ensures .1))
 
 pub put-row-spec : {M : Type 1} → statement M
 put-row-spec =
     tie.close
     (tie.spec
-    shared-slice-read-word
-    word-requires
-    shared-slice-read-word-2
-    word-requires-2
-    mul-centimetres
-    add-centimetres
+    word-at-requires
     centimetres-requires
     add-put-fixed
     cast-put-fixed

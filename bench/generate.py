@@ -1,0 +1,218 @@
+"""Job files for measuring: families of needs with limits at, below and above the optimum, and files found by hill climbing.
+
+    generate.py LIBRARY FOLDER small|full
+
+LIBRARY is the baseline as a shared library that counts (see build). Every seed is fixed: the same files each time.
+A file's name is FAMILY-JOBS-NUMBER-LIMIT.jobs, LIMIT one of tight (the optimum), below (one less: refusal 13) and loose (the
+largest that leaves the width at most 8).
+"""
+import ctypes
+import pathlib
+import random
+import sys
+
+SIZES = (8, 16, 32, 48, 64)
+WORK, TABLE = (ctypes.c_uint8 * 65536)(), (ctypes.c_uint8 * 1222)()
+
+
+def field(tag, value):
+    return bytes((tag, len(value) & 255, len(value) >> 8)) + bytes(value)
+
+
+def job_file(n, needs, limit):
+    jobs = b"".join(field(3, (37 * i % 3000 - 1500).to_bytes(2, "little", signed=True) + b"j%d" % (i + 1)) for i in range(n))
+    return field(1, (1,)) + field(2, (limit,)) + jobs + b"".join(field(4, (g + 1, k + 1)) for g, k in sorted(needs))
+
+
+class Planner:
+    """The baseline, with the work that it did in its last call."""
+
+    def __init__(self, library):
+        self.lib = ctypes.CDLL(library)
+        self.lib.baseline_plan.restype = ctypes.c_uint32
+        self.opened = ctypes.c_uint64.in_dll(self.lib, "baseline_opened")
+        self.tried = ctypes.c_uint64.in_dll(self.lib, "baseline_tried")
+
+    def plan(self, n, needs, limit):
+        """Slots, or minus the number of the refusal; and states opened, sets tried."""
+        data = job_file(n, needs, limit)
+        self.opened.value = self.tried.value = 0
+        size = ctypes.c_size_t
+        answer = self.lib.baseline_plan(data, size(len(data)), WORK, size(65536), TABLE, size(1222))
+        return (TABLE[4] if answer < 65536 else 65536 - answer), self.opened.value, self.tried.value
+
+    def limits(self, n, needs):
+        """The optimum and the loosest limit; nothing where the optimum's width is above 8 or the optimum above 64."""
+        loose = 0
+        for limit in range(1, 65):
+            if self.plan(n, needs, limit)[0] in (-11, -12):
+                break
+            loose = limit
+        slots = self.plan(n, needs, loose)[0] if loose else 0
+        return (slots, loose) if slots > 0 else None
+
+
+def renumbered(n, needs, rng):
+    order = list(range(n))
+    rng.shuffle(order)
+    return {(order[g], order[k]) for g, k in needs}
+
+
+def chains(n, rng):
+    """Chains beside each other, of nearly equal length, with some hand-overs between neighbours."""
+    count = rng.choice([c for c in (1, 2, 3, 4, 5) if -(-n // c) <= 60] or [2])
+    rows = [list(range(i, n, count)) for i in range(count)]
+    needs = {(row[i], row[i + 1]) for row in rows for i in range(len(row) - 1)}
+    for _ in range(rng.randrange(1 + n // 8) if count > 1 else 0):
+        a, b = rng.sample(rows, 2)
+        i = rng.randrange(min(len(a), len(b)) - 1) if min(len(a), len(b)) > 1 else None
+        if i is not None:
+            needs.add((a[i], b[i + 1]))
+    return needs
+
+
+def layered(n, rng, density):
+    """Layers of 2 to 4 jobs; each pair of neighbouring layers joined by this share of the possible needs, at least one a job."""
+    layers, at = [], 0
+    while at < n:
+        size = min(rng.randint(2, 4), n - at)
+        layers.append(range(at, at + size))
+        at += size
+    needs = set()
+    for above, below in zip(layers, layers[1:]):
+        needs |= {(g, k) for g in above for k in below if rng.random() < density}
+        needs |= {(rng.choice(above), k) for k in below if not any((g, k) in needs for g in above)}
+        needs |= {(g, rng.choice(below)) for g in above if not any((g, k) in needs for k in below)}
+    return needs
+
+
+def trees(n, rng):
+    """A tree that mostly grows at its tips; towards the root or away from it."""
+    tips, needs = [0], set()
+    for k in range(1, n):
+        i = rng.randrange(len(tips)) if k % max(1, len(tips)) else 0
+        g = min(tips) if rng.random() < 0.7 else tips[i]
+        needs.add((g, k))
+        if len(tips) >= 4 or rng.random() < 0.8:
+            tips.remove(g)
+        tips.append(k)
+    return needs if rng.random() < 0.5 else {(k, g) for g, k in needs}
+
+
+def series_parallel(n, rng):
+    """Blocks in a row: a fork into 2 to 4 branches of nearly equal length, and a join."""
+    needs, at, join = set(), 1, 0
+    while at < n:
+        size = min(n - at, rng.randint(4, 9))
+        branches = min(rng.randint(2, 4), size - 1)
+        if branches < 2:
+            needs |= {(i - 1 if i > at else join, i) for i in range(at, at + size)}
+        else:
+            rows = [list(range(at + b, at + size - 1, branches)) for b in range(branches)]
+            for row in rows:
+                needs |= set(zip([join] + row, row + [at + size - 1]))
+        at += size
+        join = at - 1
+    return needs
+
+
+def random_needs(n, rng):
+    """Each job takes from 1 to 3 of the jobs little before it."""
+    back = rng.randint(3, 5)
+    needs = set()
+    for k in range(1, n):
+        near = range(max(0, k - back), k)
+        needs |= {(g, k) for g in rng.sample(near, min(len(near), rng.randint(1, 3)))}
+    return needs
+
+
+FAMILIES = {
+    "chains": chains,
+    "layered30": lambda n, rng: layered(n, rng, 0.3),
+    "layered60": lambda n, rng: layered(n, rng, 0.6),
+    "layered90": lambda n, rng: layered(n, rng, 0.9),
+    "trees": trees,
+    "seriesparallel": series_parallel,
+    "random": random_needs,
+}
+
+
+def families(planner, folder, each):
+    for family, make in FAMILIES.items():
+        for n in SIZES:
+            rng, found = random.Random(f"{family} {n}"), 0
+            for _ in range(4000):
+                needs = renumbered(n, make(n, rng), rng)
+                limits = planner.limits(n, needs)
+                if not limits:
+                    continue
+                best, loose = limits
+                for name, limit in (("tight", best), ("below", best - 1), ("loose", loose)):
+                    if 0 < limit and not (name == "loose" and loose == best):
+                        (folder / f"{family}-{n:02}-{found}-{name}.jobs").write_bytes(job_file(n, needs, limit))
+                found += 1
+                if found == each:
+                    break
+            else:
+                print(f"{family} {n}: {found} of {each} found", file=sys.stderr)
+
+
+def mutated(n, needs, limit, rng):
+    needs = set(needs)
+    for _ in range(rng.choice((1, 1, 2, 3, 5))):
+        kind = rng.random()
+        if kind < 0.4 and needs:
+            needs.discard(rng.choice(sorted(needs)))
+        if kind < 0.8:
+            g, k = rng.sample(range(n), 2)
+            needs.add((g, k))
+        elif kind < 0.9:
+            a, b = rng.sample(range(n), 2)
+            swap = {a: b, b: a}
+            needs = {(swap.get(g, g), swap.get(k, k)) for g, k in needs}
+        else:
+            limit = min(64, max(1, limit + rng.choice((-1, 1))))
+    return needs, limit
+
+
+def climb(planner, n, rng, steps, start):
+    """Needs and a limit with as much work for the search as hill climbing finds."""
+    def work(needs, limit):
+        slots, opened, tried = planner.plan(n, needs, limit)
+        return 40 * opened + 12 * tried if slots > 0 or slots == -13 else -1
+
+    needs, limit = start
+    most = work(needs, limit)
+    for _ in range(steps):
+        again = mutated(n, needs, limit, rng)
+        reached = work(*again)
+        if reached >= most:
+            (needs, limit), most = again, reached
+    return needs, limit
+
+
+def hard(planner, folder, each, steps):
+    for n in (12, 16, 24, 32, 48, 64):
+        for number in range(each):
+            rng = random.Random(f"hard {n} {number}")
+            while True:
+                needs = layered(n, rng, 0.5)
+                limits = planner.limits(n, needs)
+                if limits:
+                    break
+            needs, limit = climb(planner, n, rng, steps, (needs, limits[1]))
+            (folder / f"hard-{n:02}-{number}-found.jobs").write_bytes(job_file(n, needs, limit))
+
+
+def main():
+    library, folder, size = sys.argv[1:]
+    folder = pathlib.Path(folder)
+    folder.mkdir(parents=True, exist_ok=True)
+    planner = Planner(library)
+    (folder / "deep-64-0-tight.jobs").write_bytes(job_file(64, {(i, i + 1) for i in range(63)}, 64))  # the longest way down
+    families(planner, folder, 4 if size == "full" else 1)
+    hard(planner, folder, 3 if size == "full" else 1, 20000 if size == "full" else 3000)
+
+
+if __name__ == "__main__":
+    main()
