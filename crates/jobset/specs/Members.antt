@@ -84,7 +84,7 @@ without-less s i m = greater-iff s (without s i) .1 (record {
 -- what is known in a turn that takes the place i out of s
 pub record Turn (s : Set) (i : ℕ) : Type 0 where
   pub not-empty : isEmpty s ≡ false
-  pub is-lowest : without s (lowest s) ≡ without s i
+  pub rest-is : without s (lowest s) ≡ without s i
   pub below-64 : i < 64
   pub is-member : member s i ≡ true
   pub first : members s ≡ i ∷ members (without s i)
@@ -98,7 +98,7 @@ turn s b i h e n l =
     let m = lowest-member s h o in
     rw (l) (record {
       not-empty = o;
-      is-lowest = refl;
+      rest-is = refl;
       below-64 = m .0;
       is-member = m .1;
       first = lowest-from 64 0 s (m .1) (omega arith) (omega arith);

@@ -47,7 +47,7 @@ rest-requires : tie.Need-rest-requires Inv-loop μ-loop
 rest-requires c κs = turned (c .before .before) .not-empty
 
 loop-less : tie.Need-loop-less Inv-loop μ-loop
-loop-less c = rw (c .rest .ensures ∙ turned (c .before .before .before) .is-lowest) (turned (c .before .before .before) .less)
+loop-less c = rw (c .rest .ensures ∙ turned (c .before .before .before) .rest-is) (turned (c .before .before .before) .less)
 
 loop-again : tie.Need-loop-again Inv-loop μ-loop
 unfolding sortJobs
@@ -55,7 +55,7 @@ loop-again c =
     let l = c .before .before .before .before .before .before .loop in
     let a = c .before .before .before .before .before .before .before .args in (
       search needs,
-      rw (c .rest .ensures ∙ turned (c .before .before .before) .is-lowest, c .before .sort-job .ensures)
+      rw (c .rest .ensures ∙ turned (c .before .before .before) .rest-is, c .before .sort-job .ensures)
           (sym (ap (sortJobs (a .givers .now) (a .done) (a .last) (l .candidates)) (turned (c .before .before .before) .first)) ∙ l .inv .1),
     )
 

@@ -68,7 +68,7 @@ rest-requires : tie.Need-rest-requires Inv-loop μ-loop
 rest-requires c κs = turned (c .before .before) .not-empty
 
 loop-less : tie.Need-loop-less Inv-loop μ-loop
-loop-less c = rw (c .rest .ensures ∙ turned (c .before .before .before) .is-lowest) (turned (c .before .before .before) .less)
+loop-less c = rw (c .rest .ensures ∙ turned (c .before .before .before) .rest-is) (turned (c .before .before .before) .less)
 
 loop-again : tie.Need-loop-again Inv-loop μ-loop
 unfolding coded
@@ -79,8 +79,8 @@ loop-again c =
     let v = l .inv .2 in
     let d = digits (c .before) in (
       search needs,
-      rw (c .rest .ensures ∙ t .is-lowest, c .before .digit2 .ensures, c .before .before .digit .ensures) (sym (ap (coded (a .done) (a .last) (l .code)) (t .first)) ∙ l .inv .1),
-      (suc (v .0), rw (c .rest .ensures ∙ t .is-lowest) (omega (arith, ap length (t .first))), more-lt (v .0) (l .code) (c .before .before .digit .result + c .before .digit2 .result) (v .2) (omega arith)),
+      rw (c .rest .ensures ∙ t .rest-is, c .before .digit2 .ensures, c .before .before .digit .ensures) (sym (ap (coded (a .done) (a .last) (l .code)) (t .first)) ∙ l .inv .1),
+      (suc (v .0), rw (c .rest .ensures ∙ t .rest-is) (omega (arith, ap length (t .first))), more-lt (v .0) (l .code) (c .before .before .digit .result + c .before .digit2 .result) (v .2) (omega arith)),
     )
 
 returns : tie.Need-returns Inv-loop μ-loop

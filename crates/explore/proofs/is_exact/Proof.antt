@@ -72,10 +72,10 @@ rest-requires : tie.Need-rest-requires Inv-loop μ-loop
 rest-requires c κs = turned (c .before .before .before .before) .not-empty
 
 loop-less : tie.Need-loop-less Inv-loop μ-loop
-loop-less c = rw (c .rest .ensures ∙ turned (c .before .before .before .before .before) .is-lowest) (turned (c .before .before .before .before .before) .less)
+loop-less c = rw (c .rest .ensures ∙ turned (c .before .before .before .before .before) .rest-is) (turned (c .before .before .before .before .before) .less)
 
 loop-again : tie.Need-loop-again Inv-loop μ-loop
-loop-again c = (search needs, rw (c .rest .ensures ∙ turned (c .before .before .before .before .before) .is-lowest) (rw (not-false (c .before .before .is-one .result) (c .before .if2 .left)) at (split (c .before .before)) ∙ c .before .before .before .before .before .before .before .before .loop .inv .1))
+loop-again c = (search needs, rw (c .rest .ensures ∙ turned (c .before .before .before .before .before) .rest-is) (rw (not-false (c .before .before .is-one .result) (c .before .if2 .left)) at (split (c .before .before)) ∙ c .before .before .before .before .before .before .before .before .loop .inv .1))
 
 returns-2 : tie.Need-returns-2 Inv-loop μ-loop
 unfolding all

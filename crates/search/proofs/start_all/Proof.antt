@@ -42,13 +42,13 @@ rest-requires : tie.Need-rest-requires Inv-loop μ-loop
 rest-requires c κs = turned c .not-empty
 
 loop-less : tie.Need-loop-less Inv-loop μ-loop
-loop-less c = rw (c .rest .ensures ∙ turned (c .before) .is-lowest) (turned (c .before) .less)
+loop-less c = rw (c .rest .ensures ∙ turned (c .before) .rest-is) (turned (c .before) .less)
 
 loop-again : tie.Need-loop-again Inv-loop μ-loop
 unfolding startAll
 loop-again c =
     let l = c .before .before .before .before .loop in
-    (search needs, rw (c .rest .ensures ∙ turned (c .before) .is-lowest) (sym (ap (startAll (c .before .before .before .before .before .args .slot) (l .starts)) (turned (c .before) .first)) ∙ l .inv .1))
+    (search needs, rw (c .rest .ensures ∙ turned (c .before) .rest-is) (sym (ap (startAll (c .before .before .before .before .before .args .slot) (l .starts)) (turned (c .before) .first)) ∙ l .inv .1))
 
 returns : tie.Need-returns Inv-loop μ-loop
 unfolding startAll

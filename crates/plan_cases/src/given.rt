@@ -1,0 +1,72 @@
+// The cases of document 01 whose files are given by their bytes, and files for the refusals that it names no case of.
+use crate::answers::plan;
+use crate::answers::plan_bytes;
+use crate::answers::plan_short_table;
+use crate::answers::plan_short_work;
+
+// Limit 3; jobs of 15, -15 and 4 millimetres with the names a, b and c; needs 1-3 and 2-3.
+fn example() {
+    let file =
+        b"\x01\x01\x00\x01\x02\x01\x00\x03\x03\x03\x00\x0f\x00a\x03\x03\x00\xf1\xffb\x03\x03\x00\x04\x00c\x04\x02\x00\x01\x03\x04\x02\x00\x02\x03";
+    plan(b"the example", file);
+    plan_bytes(b"its table", file);
+    plan_short_work(b"1 a working buffer of 65535", file);
+    plan_short_table(b"1 a table buffer of 1221", file);
+}
+
+fn first_fields() {
+    plan(b"10 no byte", b"");
+    plan(b"5 header and comment", b"\x01\x01\x00\x01\x05\x00\x00");
+    plan(b"4 tag 9 first", b"\x09\x00\x00");
+    plan(b"5 tag 3 first", b"\x03\x03\x00\x0f\x00a");
+}
+
+fn later_fields() {
+    plan(b"3 half a head", b"\x01\x01\x00\x01\x02\x01\x00\x03\x03");
+    plan(
+        b"3 half a value",
+        b"\x01\x01\x00\x01\x02\x01\x00\x03\x03\x03\x00\x0f",
+    );
+    plan(
+        b"a comment of length 0 at the end",
+        b"\x01\x01\x00\x01\x02\x01\x00\x01\x03\x03\x00\x0f\x00a\x05\x00\x00",
+    );
+    plan(b"6 limit 65", b"\x01\x01\x00\x01\x02\x01\x00\x41");
+}
+
+// Bytes at the front of a file.
+fn put(file: &mut [u8], bytes: &[u8]) {
+    let mut i = 0;
+    while i < bytes.len() && i < file.len() {
+        file[i] = bytes[i];
+        i += 1;
+    }
+}
+
+// One job, limit 1, and a comment up to the last byte that a file may have.
+fn longest() {
+    let mut file = [0; 16384];
+    put(
+        &mut file,
+        b"\x01\x01\x00\x01\x02\x01\x00\x01\x03\x03\x00\x0f\x00a\x05\xef\x3f",
+    );
+    plan(b"a file of 16384 bytes", &file);
+}
+
+// The same with a comment that is one byte longer.
+fn too_long() {
+    let mut file = [0; 16385];
+    put(
+        &mut file,
+        b"\x01\x01\x00\x01\x02\x01\x00\x01\x03\x03\x00\x0f\x00a\x05\xf0\x3f",
+    );
+    plan(b"2 a file of 16385 bytes", &file);
+}
+
+pub(crate) fn all() {
+    example();
+    first_fields();
+    later_fields();
+    longest();
+    too_long();
+}

@@ -1,0 +1,52 @@
+-- `random_files::draw::put_file` is safe and ends. Assumes nothing.
+use Prim.Native.Nat.{_≤_, _-_}
+use borrow.Author.Needs.{needs}
+use Rattle.random_files.proofs.draw.put_file.Statement.{statement}
+use Rattle.random_files.proofs.draw.put_file.Tie as tie
+
+abbrev Inv-loop : tie.InvT-loop
+Inv-loop file₀ limit jobs needs first at₀ k₀ file at k =
+    k ≤ 25
+
+abbrev μ-loop : tie.MeasureT-loop
+μ-loop file₀ limit jobs needs first at₀ k₀ file at k =
+    25 - k
+
+put-jobs-requires : tie.Need-put-jobs-requires Inv-loop μ-loop
+put-jobs-requires c κs = search needs
+
+loop-holds : tie.Need-loop-holds Inv-loop μ-loop
+loop-holds c = search needs
+
+add-put-if : tie.Need-add-put-if Inv-loop μ-loop
+add-put-if c = search needs
+
+put-if-requires : tie.Need-put-if-requires Inv-loop μ-loop
+put-if-requires c κs = search needs
+
+add-k : tie.Need-add-k Inv-loop μ-loop
+add-k c = search needs
+
+loop-less : tie.Need-loop-less Inv-loop μ-loop
+loop-less c = search needs
+
+loop-again : tie.Need-loop-again Inv-loop μ-loop
+loop-again c = search needs
+
+returns : tie.Need-returns Inv-loop μ-loop
+returns c = search needs
+
+pub put-file-spec : {M : Type 1} → statement M
+put-file-spec =
+    tie.close
+    (tie.spec
+    Inv-loop
+    μ-loop
+    put-jobs-requires
+    loop-holds
+    add-put-if
+    put-if-requires
+    add-k
+    loop-less
+    loop-again
+    returns)

@@ -1,0 +1,74 @@
+// Random numbers, needs and job files of at most five jobs.
+//
+// Jobs count from 0. Needs are a table of 25: the need from a giver to a taker stands at five times the giver plus the taker, 1 where it is there.
+ghost use Prim.Native.Nat.{_≤_};
+
+// The next number. Its upper half is what is used.
+pub(crate) fn next(seed: u64) -> u64 {
+    (seed % 4294967296 * 1664525 + 1013904223) % 4294967296
+}
+
+// The rank of a job in a random order, 0 to 7.
+fn rank(order: u64, job: usize) -> u64 {
+    match job {
+        0 => order % 8,
+        1 => order / 8 % 8,
+        2 => order / 64 % 8,
+        3 => order / 512 % 8,
+        _ => order / 4096 % 8,
+    }
+}
+
+// 1 where there is to be a need between two of so many jobs: of those that keep the order, so many of eight; now and then one that does not.
+fn wanted(number: u64, order: u64, share: u64, jobs: usize, place: usize) -> u8 {
+    let giver = place / 5;
+    let taker = place % 5;
+    if giver >= jobs || taker >= jobs || giver == taker || number % 8 >= share {
+        return 0;
+    }
+    if rank(order, giver) < rank(order, taker) || number / 8 % 32 == 0 {
+        return 1;
+    }
+    0
+}
+
+// Needs between so many jobs. Gives the last number drawn.
+pub(crate) fn draw_needs(seed: u64, jobs: usize, needs: &mut [u8; 25]) -> u64 {
+    let order = seed / 65536;
+    let mut last = next(seed);
+    let share = 1 + last / 65536 % 7;
+    let mut k = 0;
+    while k < 25 {
+        last = next(last);
+        needs[k] = wanted(last / 65536, order, share, jobs, k);
+        k += 1;
+    }
+    last
+}
+
+// The need at a place of the table, where it is there, behind so many bytes. Gives the length with it.
+fn put_if(file: &mut [u8; 1222], needs: &[u8; 25], place: usize, at: usize) -> usize {
+    if place < 25 && at <= 1217 && needs[place] == 1 {
+        return drafts::put_need(file, at, 1 + (place / 5) as u8, 1 + (place % 5) as u8);
+    }
+    at
+}
+
+// The job file with these needs, in the order of the table from a place on and then around. Gives its length.
+pub(crate) fn put_file(
+    file: &mut [u8; 1222],
+    limit: u8,
+    jobs: u8,
+    needs: &[u8; 25],
+    first: usize,
+) -> usize
+    requires { ⌜ (jobs ≤ 5) × (first ≤ 25) ⌝ }
+{
+    let mut at = drafts::put_jobs(file, limit, jobs);
+    let mut k = 0;
+    while k < 25 {
+        at = put_if(file, needs, (first + k) % 25, at);
+        k += 1;
+    }
+    at
+}
