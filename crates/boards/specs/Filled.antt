@@ -1,15 +1,13 @@
 -- An array that is filled job by job: its entries. Assumes nothing.
-use mathlib.Core.Path.{_≡_, refl, sym, _∙_}
+use mathlib.Core.Path.{_≡_, refl, _∙_}
 use mathlib.Core.List.{List}
 use Prim.Native.Nat.{ℕ, zero, suc, _+_, _-_, _≤_, _<_}
 use native.Mathlib.Decide.{ℕ-discrete}
-use native.Mathlib.Nat.{zero-add}
 use native.Mathlib.Numerals.{add-one}
 use native.Mathlib.Omega.{arith}
 use lib.ListN.{length, set, length-set}
-use lib.Seq.{ext-getD, getD-set-same, getD-set-other}
-use Rattle.rules.specs.Basics.{at, tabulate}
-use Rattle.laws.specs.Lists.{tabulate-at, length-tabulate}
+use lib.Seq.{getD-set-same, getD-set-other}
+use Rattle.rules.specs.Basics.{at}
 use Rattle.boards.specs.Placing.{filled}
 
 module _ (f : ℕ → ℕ) (a : List ℕ) where

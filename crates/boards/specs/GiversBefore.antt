@@ -67,9 +67,6 @@ module _ (n : ℕ) (few : n ≤ 64) (needs : List Need) (needs-in : NeedsIn n ne
   unfolding inherit choose
   inherit-giver z g a e h = rw (lone, not-empty (one (63 - g)) (63 - g) (in-one (63 - g) (63 - g) .1 refl), lowest-one)
     where
-      g-in : g < n
-      g-in = needs-in g x a .0
-
       lone : giversIn givers last (63 - x) ≡ one (63 - g)
       lone = set-ext (giversIn givers last (63 - x)) (one (63 - g)) (λ q. bool-ext (member (giversIn givers last (63 - x)) q) (member (one (63 - g)) q)
           (λ m. let w = in-givers q m in

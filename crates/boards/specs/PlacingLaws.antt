@@ -44,11 +44,6 @@ module _ (n : ℕ) (needs : List Need) (t givers starts : List ℕ) (h : ArraysH
   in-slots : (i : ℕ) → i < n → at t i < slots t
   unfolding slots
   in-slots i l = omega (arith, at-largest t i (omega (arith, h .len)))
-
-  -- so the code may be called
-  pub arrays-startable : Startable starts n (slots t)
-  arrays-startable = record { jobs-few = h .few; slots-few = h .slots-few; in-slots = λ i l. rw (h .starts-are i l) (in-slots i l) }
-
   -- the sets of the slots
   runs : List ℕ
   runs = slotSets starts (replicate 64 0) n

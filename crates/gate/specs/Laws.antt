@@ -1,11 +1,10 @@
 -- The numbers of the answers are those of the rules, and the name's number says where it stands. Assumes nothing.
 use mathlib.Core.Path.{_≡_, refl, sym, ap, subst, _∙_}
 use mathlib.Core.Logic.{inl, inr}
-use mathlib.Core.List.{List, []}
+use mathlib.Core.List.{List}
 use Prim.Native.Nat.{ℕ, zero, suc, _+_, _-_, _*_, _/_, _%_, _≤_, _<_}
 use native.Mathlib.Omega.{arith}
 use lib.ListN.{take, drop}
-use lib.Dec.{eqb}
 use Rattle.rules.specs.Sizes.{tableSize}
 use Rattle.rules.specs.Basics.{at}
 use Rattle.rules.specs.Fields.{Answer, refused, got, numberOf, part}

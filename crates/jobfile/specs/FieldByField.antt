@@ -12,7 +12,6 @@ use Rattle.rules.specs.Needs.{givesb}
 use Rattle.rules.specs.JobFile.{JobFile, knownTag, inPlace, lengthOk, contentOk, addField, readField, noFields}
 use Rattle.laws.specs.Tests.{by-choice}
 use Rattle.laws.specs.Fields.{whole-is, after-head, overFields-step, overFields-end}
-use Rattle.jobset.specs.Sets.{empty}
 use Rattle.jobset.specs.Membership.{member-empty}
 use Rattle.jobfile.specs.declared.FieldAnswer.{FieldAnswer}
 use Rattle.jobfile.specs.declared.FieldAnswer.the-variants.{Field, Refused}

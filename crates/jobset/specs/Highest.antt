@@ -14,7 +14,6 @@ use Rattle.rules.specs.Basics.{choose}
 use Rattle.jobset.specs.declared.Set.{Set}
 use Rattle.jobset.specs.Sets.{digit, member, empty, with, without, isEmpty, highest, fallingFrom, falling}
 use Rattle.jobset.specs.Membership.{member-empty, member-with, without-same, without-other}
-use Rattle.jobset.specs.Digits.{digit-zero}
 use Rattle.jobset.specs.Order.{greater-iff}
 
 -- what is known of the highest member

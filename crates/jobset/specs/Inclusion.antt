@@ -46,11 +46,6 @@ union-subset s t u f g j p = go (in-union s t j .0 p)
     go : (member s j ≡ true) ⊎ (member t j ≡ true) → member u j ≡ true
     go (inl q) = f j q
     go (inr q) = g j q
-
-pub with-subset : (s u : Set) (i : ℕ) → Subset s u → member u i ≡ true → Subset (with s i) u
-unfolding with
-with-subset s u i f m = union-subset s (one i) u f (one-subset u i m)
-
 pub intersection-subset : (s t : Set) → Subset (intersection s t) t
 unfolding Subset
 intersection-subset s t j p = in-intersection s t j .0 p .1

@@ -1,19 +1,19 @@
 -- The check passes a table exactly when it is a table for the job file (demand 2), and the numbers of its refusals. Assumes nothing.
 use mathlib.Core.Path.{_≡_, refl, sym, ap, subst, _∙_}
 use mathlib.Core.Logic.{_⊎_, inl, inr, _↔_}
-use mathlib.Core.Bool.{Bool, true, false, _&&_}
+use mathlib.Core.Bool.{Bool, _&&_}
 use mathlib.Core.List.{List, [], _∷_, List·Memᴰ, List·Memᴰ·head, List·Memᴰ·tail, List·Memᴰ·cases-cons, List·Memᴰ·not-nil}
-use Prim.Native.Nat.{ℕ, zero, suc, _+_, _≤_, _<_}
+use Prim.Native.Nat.{ℕ, zero, suc, _≤_, _<_}
 use native.Mathlib.Omega.{arith}
 use lib.ListN.{length, length-map}
-use lib.Dec.{T, eqb, leb}
+use lib.Dec.{T, eqb}
 use Rattle.rules.specs.Sizes.{maxBoards}
-use Rattle.rules.specs.Basics.{choose, at, all, range, largest}
+use Rattle.rules.specs.Basics.{at, range, largest}
 use Rattle.rules.specs.Numbers.{Bytes, eqℤ, centimetres}
-use Rattle.rules.specs.Fields.{Answer, refused, got, ask, after, numberOf, overFields}
-use Rattle.rules.specs.Needs.{Need, Gives, NeedsIn, Circle, circleFree}
+use Rattle.rules.specs.Fields.{Answer, got, ask, after, overFields}
+use Rattle.rules.specs.Needs.{Need, NeedsIn, Circle, circleFree}
 use Rattle.rules.specs.JobFile.{Job, JobFile, nthJob, readFile}
-use Rattle.rules.specs.Program.{SatisfiesP, slots, Kept}
+use Rattle.rules.specs.Program.{SatisfiesP, slots}
 use Rattle.rules.specs.Boards.{BoardRules}
 use Rattle.rules.specs.Table.{Row, Table, nthRow, starts, boardsOf, decode, sameName, labelled, sized, apartb, needsKept, headOk, readRow}
 use Rattle.rules.specs.Answers.{check}

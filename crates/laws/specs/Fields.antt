@@ -9,9 +9,9 @@ use borrow.Author.Tests.{lt-ltb, le-ltb}
 use lib.ListN.{length, drop, length-take, length-drop}
 use lib.Dec.{T, ltb}
 use Rattle.rules.specs.Basics.{choose}
-use Rattle.rules.specs.Fields.{Answer, refused, got, numberOf, ask, after, part, fieldEnd, value, whole, overFields}
+use Rattle.rules.specs.Fields.{Answer, refused, got, ask, after, part, fieldEnd, value, whole, overFields}
 use Rattle.rules.specs.Numbers.{Bytes}
-use Rattle.laws.specs.Tests.{tests, by-choice}
+use Rattle.laws.specs.Tests.{tests}
 use Rattle.laws.specs.Numbers.{bytes-take, bytes-drop}
 
 -- ---- answers

@@ -12,10 +12,10 @@ use lib.Dec.{T, leb, ltb, eqb}
 use Rattle.rules.specs.Sizes.{maxJobs, maxLimit, maxFile}
 use Rattle.rules.specs.Basics.{choose, at, all, any, Distinct}
 use Rattle.rules.specs.Numbers.{Bytes, word, InRange}
-use Rattle.rules.specs.Fields.{numberOf, got, ask, after, value, whole, overFields}
+use Rattle.rules.specs.Fields.{got, ask, after, value, whole, overFields}
 use Rattle.rules.specs.Needs.{Need, Gives, givesb}
 use Rattle.rules.specs.JobFile.{fieldRows, firstRow, fieldRow, Job, JobFile, nameByte, nameOk, knownTag, inPlace, lengthOk, contentOk, counted, withLimit, withJob, withNeed, jobOf, isJob, addNeed, addField, readField, noFields, complete, readFile}
-use Rattle.laws.specs.Tests.{by-choice, T-and, T-all, T-ltb, T-eqb, tests}
+use Rattle.laws.specs.Tests.{T-and, T-all, T-ltb, T-eqb, tests}
 use Rattle.laws.specs.Numbers.{bytes-at, split-word, unsigned-signed}
 use Rattle.laws.specs.Fields.{ask-got, after-got, bytes-value, overFields-keeps}
 

@@ -188,13 +188,6 @@ abbrev pub Best : ℕ → (List ℕ → Type 0) → Option (List ℕ) → Type 0
 Best n G none = (u : List ℕ) → G u → ⊥
 Best n G (some r) = G r × ((u : List ℕ) → G u → Weak n r u)
 
--- there is one best result
-pub Best-unique : (n : ℕ) (G : List ℕ → Type 0) (o p : Option (List ℕ)) → Best n G o → Best n G p → o ≡ p
-Best-unique n G none none a b = refl
-Best-unique n G none (some r) a b = absurd (a r (b .0))
-Best-unique n G (some r) none a b = absurd (b r (a .0))
-Best-unique n G (some r) (some u) a b = ap some (Weak-antisym n r u (a .1 u (b .0)) (b .1 r (a .0)))
-
 -- families with the same lists have the same best result
 pub Best-iff : (n : ℕ) (A B : List ℕ → Type 0) → ((u : List ℕ) → A u → B u) → ((u : List ℕ) → B u → A u) → (o : Option (List ℕ)) → Best n A o → Best n B o
 Best-iff n A B f g none h = λ u b. h u (g u b)

@@ -7,7 +7,7 @@ use Prim.Native.Nat.{ℕ, zero, suc, _+_, _≤_, _<_, max}
 use native.Mathlib.Omega.{arith}
 use native.Mathlib.Decide.{decLt, ℕ-discrete}
 use native.Mathlib.Nat.{zero-add}
-use lib.ListN.{length, replicate, length-replicate, List·getD-eq-default}
+use lib.ListN.{length, length-replicate, List·getD-eq-default}
 use lib.Dec.{T, eqb}
 use Rattle.rules.specs.Basics.{choose, at, imp, all}
 use Rattle.rules.specs.Needs.{Need, Gives, NeedsIn, Circle, marked, rounds}

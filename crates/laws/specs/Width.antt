@@ -59,10 +59,3 @@ pub width-is : (n : ℕ) (needs : List Need) (L : ℕ) → NeedsIn n needs → �
     → (r : ℕ → ℕ) → ((i : ℕ) → i < n → Formula1 needs r i) → (d : ℕ → ℤ) → ((i : ℕ) → i < n → Formula2 needs L d i) → widthOf n r d L ≡ width n needs L
 width-is n needs L needs-in free r hr d hd =
     windows-width n needs L r d (release-only n needs needs-in free r hr) (deadline-only n needs needs-in free L d hd) ∙ sym (width-window n needs L)
-
--- a window of a smaller makespan lies within that of a larger one, and the width does not fall
-pub window-mono : (rel tl : ℕ → ℕ) (C L s i : ℕ) → C ≤ L → T (window rel tl C s i) → T (window rel tl L s i)
-window-mono rel tl C L s i l h = let a = window-is rel tl C s i .0 h in window-is rel tl L s i .1 (a .0, omega (arith, a .1))
-
-pub width-mono : (n : ℕ) (rel tl : ℕ → ℕ) (C L : ℕ) → C ≤ L → most (λ s. count (window rel tl C s) n) C ≤ most (λ s. count (window rel tl L s) n) L
-width-mono n rel tl C L l = most-mono (window rel tl C) (window rel tl L) n C L l (λ s i h. window-mono rel tl C L s i l)

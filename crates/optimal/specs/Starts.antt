@@ -8,7 +8,7 @@ use native.Mathlib.Omega.{arith}
 use native.Mathlib.Decide.{decLt, ℕ-discrete}
 use lib.ListN.{length, set, length-set, replicate, length-replicate, getD-replicate, List·getD-eq-default}
 use lib.Seq.{ext-getD, getD-set-same, getD-set-other}
-use Rattle.rules.specs.Basics.{at, tabulate}
+use Rattle.rules.specs.Basics.{at}
 use Rattle.laws.specs.Lists.{tabulate-at, length-tabulate, zeros-at}
 use Rattle.laws.specs.Places.{byPlace}
 use Rattle.jobset.specs.declared.Set.{Set}

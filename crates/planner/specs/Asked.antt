@@ -1,15 +1,14 @@
 -- Questions 2 to 12: a refusal, or what the rest is given. Assumes nothing.
-use mathlib.Core.Path.{_≡_, refl, sym, ap, ap₂, subst, _∙_}
-use mathlib.Core.Bool.{Bool, true, false}
-use mathlib.Core.List.{List, [], _∷_, _++_, map}
-use Prim.Native.Nat.{ℕ, zero, suc, _≤_, _<_, _^_}
+use mathlib.Core.Path.{_≡_, sym, ap, ap₂, _∙_}
+use mathlib.Core.Bool.{true, false}
+use mathlib.Core.List.{List, _++_, map}
+use Prim.Native.Nat.{ℕ, _≤_, _<_, _^_}
 use native.Mathlib.Omega.{arith}
 use lib.ListN.{length, drop, replicate}
 use lib.Seq.{drop-at}
 use lib.Dec.{T, leb}
 use Rattle.rules.specs.Basics.{at}
-use Rattle.rules.specs.Numbers.{Bytes}
-use Rattle.rules.specs.Fields.{Answer, refused, got, ask, after, numberOf}
+use Rattle.rules.specs.Fields.{Answer, refused, got, after, numberOf}
 use Rattle.rules.specs.Needs.{Need, NeedsIn, circleFree}
 use Rattle.rules.specs.JobFile.{JobFile, readFile}
 use Rattle.rules.specs.Windows.{swap, width}
@@ -20,7 +19,7 @@ use Rattle.laws.specs.Numbers.{bytes-all}
 use Rattle.laws.specs.JobFile.{readable}
 use Rattle.laws.specs.Refusals.{read-got}
 use Rattle.laws.specs.Deadlines.{swap-in}
-use Rattle.jobset.specs.Arrays.{GiversAre, TakersAre}
+use Rattle.jobset.specs.Arrays.{GiversAre}
 use Rattle.jobfile.specs.declared.JobFile as reader
 use Rattle.jobfile.specs.Reading.{Reads}
 use Rattle.windows.specs.declared.JobLevels.{JobLevels}

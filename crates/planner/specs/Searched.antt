@@ -1,25 +1,16 @@
 -- The search on a file's windows finds the rules' best start list. Assumes nothing.
-use mathlib.Core.Path.{_≡_, refl, sym, ap, _∙_}
+use mathlib.Core.Path.{_≡_}
 use mathlib.Core.List.{List}
-use mathlib.Core.Option.{Option, none, some}
-use Prim.Native.Nat.{ℕ, _+_, _-_, _≤_, _<_}
-use native.Mathlib.Omega.{arith}
-use lib.ListN.{length}
-use Rattle.rules.specs.Basics.{at}
+use Prim.Native.Nat.{ℕ, _+_, _-_, _≤_}
 use Rattle.rules.specs.Needs.{NeedsIn, Circle}
 use Rattle.rules.specs.JobFile.{JobFile}
-use Rattle.rules.specs.Program.{slots, keptb}
+use Rattle.rules.specs.Program.{keptb}
 use Rattle.rules.specs.Preference.{best}
 use Rattle.laws.specs.Tests.{T-true}
 use Rattle.laws.specs.Circles.{circle-free}
-use Rattle.laws.specs.Program.{slots-pos}
-use Rattle.laws.specs.Best.{Shortest, best-found}
-use Rattle.laws.specs.Places.{byPlace}
-use Rattle.search.specs.declared.Found.{Found}
 use Rattle.search.specs.Shortest.{shortest}
 use Rattle.explore.specs.Slot.{tables}
 use Rattle.explore.specs.States.{WellFormed}
-use Rattle.windows.specs.Windows.{fileWindows}
 use Rattle.optimal.specs.SearchIsBest.{answerOf}
 use Rattle.optimal.specs.OfFile.{file-well-formed, file-is-best}
 use Rattle.planner.specs.Planner.{size, JobsRead, WindowsRead}

@@ -1,12 +1,12 @@
 -- From what the search finds to the answer: no table, or the table of the best start list. Assumes nothing.
-use mathlib.Core.Path.{_≡_, refl, sym, ap, ap₂, subst, _∙_}
-use mathlib.Core.List.{List, [], _∷_, _++_}
+use mathlib.Core.Path.{_≡_, refl, ap, _∙_}
+use mathlib.Core.List.{List, _++_}
 use mathlib.Core.Option.{Option, none, some}
-use Prim.Native.Nat.{ℕ, zero, suc, _+_, _-_, _≤_, _<_}
+use Prim.Native.Nat.{ℕ, _+_, _-_, _≤_, _<_}
 use native.Mathlib.Omega.{arith}
 use lib.ListN.{length, drop, length-drop}
 use lib.Dec.{T}
-use Rattle.rules.specs.Basics.{at, tabulate, largest}
+use Rattle.rules.specs.Basics.{at, tabulate}
 use Rattle.rules.specs.Numbers.{centimetres}
 use Rattle.rules.specs.Fields.{Answer, refused, got, after, value}
 use Rattle.rules.specs.Needs.{Gives}
@@ -14,20 +14,18 @@ use Rattle.rules.specs.JobFile.{JobFile, nthJob, nameOk, jobOf, readFile}
 use Rattle.rules.specs.Program.{slots, Kept, Fits, keptb}
 use Rattle.rules.specs.Preference.{best}
 use Rattle.rules.specs.Boards.{boards}
-use Rattle.rules.specs.Table.{Row, Table, encode}
-use Rattle.rules.specs.Answers.{tableOf, tabled, planTable, cleared, written}
+use Rattle.rules.specs.Table.{Table, encode}
+use Rattle.rules.specs.Answers.{tableOf, tabled, planTable, written}
 use Rattle.laws.specs.Tests.{tests}
-use Rattle.laws.specs.Lists.{nth-mem, tabulate-at, tabulate-same}
-use Rattle.laws.specs.Counting.{at-largest}
+use Rattle.laws.specs.Lists.{nth-mem, tabulate-same}
 use Rattle.laws.specs.Program.{program-is, slots-pos}
 use Rattle.laws.specs.Best.{Shortest, best-found}
-use Rattle.laws.specs.BoardLaws.{boards-length, boards-width}
 use Rattle.laws.specs.Planned.{asked-13, few-boards}
 use Rattle.laws.specs.Places.{by-place-at, byPlace}
 use Rattle.search.specs.declared.Found.{Found}
 use Rattle.boards.specs.declared.Placed.{Placed}
 use Rattle.boards.specs.Placing.{Startable, placed}
-use Rattle.boards.specs.PlacingLaws.{ArraysHold, rulesPlaced, place-is}
+use Rattle.boards.specs.PlacingLaws.{rulesPlaced, place-is}
 use Rattle.optimal.specs.SearchIsBest.{answerOf}
 use Rattle.writer.specs.Written.{rowWith, tableWith, JobFields}
 use Rattle.planner.specs.declared.Planned.the-variants as made

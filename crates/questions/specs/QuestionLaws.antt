@@ -1,21 +1,21 @@
 -- The functions for questions 15 to 18 answer the rules' questions. Assumes nothing.
 use mathlib.Core.Path.{_≡_, refl, sym, ap, _∙_}
-use mathlib.Core.Bool.{Bool, true, false, not, _&&_}
+use mathlib.Core.Bool.{true, false, not}
 use mathlib.Core.List.{List, List·Memᴰ}
 use Prim.Native.Nat.{ℕ, suc, _+_, _-_, _≤_, _<_}
 use native.Mathlib.Omega.{arith}
 use native.Mathlib.Decide.{decLt}
 use borrow.Author.Tests.{eq-eqb, ne-eqb, le-leb, lt-leb}
-use lib.ListN.{length, take, drop, length-drop}
+use lib.ListN.{length, drop}
 use lib.Dec.{T, leb, eqb}
 use lib.IntN.{ℤ}
 use Rattle.rules.specs.Basics.{at, all, range, largest}
 use Rattle.rules.specs.Numbers.{word, signed, unsigned, InRange, eqℤ, centimetres}
 use Rattle.rules.specs.JobFile.{jobOf}
-use Rattle.rules.specs.Needs.{Need, Gives, givesb, NeedsIn}
+use Rattle.rules.specs.Needs.{Need, Gives, NeedsIn}
 use Rattle.rules.specs.Program.{slots}
 use Rattle.rules.specs.Table.{rowOf, sameName, apartb, needsKept}
-use Rattle.laws.specs.Tests.{tests, bool-ext, T-eqb, T-true}
+use Rattle.laws.specs.Tests.{tests, bool-ext, T-eqb}
 use Rattle.laws.specs.Counting.{range-below}
 use Rattle.laws.specs.Numbers.{split-word, unsigned-signed, signed-unsigned, T-eqℤ, centimetres-in}
 use Rattle.laws.specs.Program.{gives-is}

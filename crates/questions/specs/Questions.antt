@@ -1,5 +1,4 @@
 -- What each function for questions 15 to 18 gives, over starts and boards in number order. Assumes nothing.
-use mathlib.Core.Path.{_≡_}
 use mathlib.Core.Bool.{Bool, _&&_}
 use mathlib.Core.List.{List}
 use Prim.Native.Nat.{ℕ, _+_, _-_, _≤_}

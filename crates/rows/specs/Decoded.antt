@@ -1,15 +1,15 @@
 -- A table that decodes is made of the rows that stand one behind the other in its bytes. Assumes nothing.
-use mathlib.Core.Path.{_≡_, refl, sym, ap, subst, _∙_}
+use mathlib.Core.Path.{_≡_, sym, ap, _∙_}
 use mathlib.Core.Bool.{Bool, true, false}
 use mathlib.Core.List.{List, [], _∷_, _++_}
-use Prim.Native.Nat.{ℕ, zero, suc, _+_, _≤_, _<_}
+use Prim.Native.Nat.{ℕ, zero, suc, _+_, _<_}
 use native.Mathlib.Omega.{arith}
 use native.Mathlib.Decide.{ℕ-discrete}
 use lib.ListN.{length}
 use lib.Dec.{T, ltb}
 use Rattle.rules.specs.Basics.{choose, at, tabulate}
-use Rattle.rules.specs.Fields.{Answer, refused, got, ask, after, fieldEnd, value, overFields}
-use Rattle.rules.specs.Table.{Row, Table, rowOf, readRow, headOk, decode, rowStart}
+use Rattle.rules.specs.Fields.{got, after, fieldEnd, overFields}
+use Rattle.rules.specs.Table.{Row, Table, readRow, headOk, decode, rowStart}
 use Rattle.laws.specs.Lists.{length-tabulate, tabulate-last}
 use Rattle.laws.specs.Fields.{ask-got, after-got}
 use Rattle.rows.specs.Rows.{isRow, rowNumber, tableOf}

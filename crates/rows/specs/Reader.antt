@@ -1,17 +1,17 @@
 -- The answers of the reader of a table. Assumes nothing.
-use mathlib.Core.Path.{_≡_, refl, sym, ap, _∙_}
-use mathlib.Core.Bool.{Bool, true, false, true≢false, false≢true}
+use mathlib.Core.Path.{_≡_, refl, sym, _∙_}
+use mathlib.Core.Bool.{Bool, true, false, true≢false}
 use mathlib.Core.List.{List}
 use Prim.Native.Nat.{ℕ, _≤_}
 use lib.ListN.{length}
 use lib.Dec.{T}
-use Rattle.rules.specs.Basics.{at, tabulate}
-use Rattle.rules.specs.Fields.{Answer, refused, got, ask, after}
-use Rattle.rules.specs.Table.{Row, starts, boardsOf, headOk, decode}
+use Rattle.rules.specs.Basics.{at}
+use Rattle.rules.specs.Fields.{refused, got, ask, after}
+use Rattle.rules.specs.Table.{Row, starts, headOk, decode}
 use Rattle.laws.specs.Lists.{length-tabulate, map-tabulate}
-use Rattle.laws.specs.Fields.{ask-yes, ask-no}
-use Rattle.rows.specs.Rows.{rowNumber, tableOf, Few, Holds, Decodes}
-use Rattle.rows.specs.RowByRow.{allRows, ReadTo, end-rows}
+use Rattle.laws.specs.Fields.{ask-yes}
+use Rattle.rows.specs.Rows.{rowNumber, tableOf, Few, Decodes}
+use Rattle.rows.specs.RowByRow.{ReadTo, end-rows}
 use Rattle.rows.specs.declared.Rows as code
 
 -- the reader refuses

@@ -1,11 +1,10 @@
 -- The rows of a table, read one after the other: the invariant of the reader, and the table that it ends with. Assumes nothing.
 use mathlib.Core.Path.{_≡_, refl, sym, ap, subst, _∙_}
-use mathlib.Core.Bool.{Bool, true, false, _&&_}
-use mathlib.Core.List.{List, [], _∷_, _++_, map}
-use Prim.Native.Nat.{ℕ, zero, suc, _+_, _-_, _*_, _≤_, _<_}
+use mathlib.Core.Bool.{Bool, _&&_}
+use mathlib.Core.List.{List, [], _∷_, _++_}
+use Prim.Native.Nat.{ℕ, suc, _+_, _-_, _*_, _≤_, _<_}
 use native.Mathlib.Omega.{arith}
 use native.Mathlib.Numerals.{add-one}
-use native.Mathlib.Nat.{add-zero, zero-add}
 use native.Mathlib.Decide.{ℕ-discrete}
 use lib.ListN.{length, take, drop, set, length-set, length-append, replicate, length-replicate}
 use lib.Seq.{getD-take, getD-drop, getD-set-same, getD-set-other, take-suc-set}
@@ -14,14 +13,14 @@ use Rattle.rules.specs.Sizes.{maxJobs}
 use Rattle.rules.specs.Basics.{at, tabulate}
 use Rattle.rules.specs.Fields.{Answer, refused, got, ask, after, part, fieldEnd, value, whole, overFields}
 use Rattle.rules.specs.JobFile.{nameOk}
-use Rattle.rules.specs.Table.{Row, Table, starts, boardsOf, rowOf, readRow, headOk, decode, rowStart}
+use Rattle.rules.specs.Table.{Row, Table, starts, rowOf, readRow, headOk, decode, rowStart}
 use Rattle.laws.specs.Tests.{T-false, by-choice}
-use Rattle.laws.specs.Lists.{length-tabulate, tabulate-last, map-tabulate}
-use Rattle.laws.specs.Fields.{ask-got, after-got, ask-yes, ask-no, whole-is, after-head, length-value, overFields-step, overFields-end, overFields-keeps}
+use Rattle.laws.specs.Lists.{length-tabulate, tabulate-last}
+use Rattle.laws.specs.Fields.{ask-got, after-got, ask-yes, whole-is, after-head, length-value, overFields-step, overFields-end, overFields-keeps}
 use Rattle.laws.specs.Refusals.{Refusal, decode-number}
 use Rattle.rows.specs.declared.RowAnswer.{RowAnswer}
 use Rattle.rows.specs.declared.RowAnswer.the-variants as answer
-use Rattle.rows.specs.Rows.{isRow, rowAnswer, rowNumber, tableOf, Few}
+use Rattle.rows.specs.Rows.{isRow, rowAnswer, rowNumber, Few}
 use Rattle.rows.specs.RowWays.{IsRow, row-is}
 
 -- byte i of a value

@@ -5,7 +5,7 @@ use mathlib.Core.List.{List}
 use Prim.Native.Nat.{ℕ}
 use native.Mathlib.Omega.{arith}
 use lib.ListN.{length, take, length-map}
-use Rattle.rules.specs.Basics.{choose, at}
+use Rattle.rules.specs.Basics.{choose}
 use Rattle.rules.specs.Fields.{Answer, refused, ask}
 use Rattle.rules.specs.Table.{Table, starts, boardsOf, sized, apartb}
 use Rattle.laws.specs.Lists.{length-tabulate}

@@ -1,31 +1,30 @@
 -- The ways out of the check, by what it has tested. Assumes nothing.
 use mathlib.Core.Path.{_≡_, refl, sym, ap, ap₂, subst, _∙_}
 use mathlib.Core.Bool.{Bool, true, false}
-use mathlib.Core.List.{List, [], _∷_, List·Memᴰ, List·Memᴰ·head, List·Memᴰ·tail}
-use Prim.Native.Nat.{ℕ, zero, suc, _+_, _-_, _≤_, _<_}
+use mathlib.Core.List.{List}
+use Prim.Native.Nat.{ℕ, _+_, _-_, _≤_, _<_}
 use native.Mathlib.Omega.{arith}
-use lib.ListN.{length, take, drop, getD, length-drop, length-map}
+use lib.ListN.{length, take, drop, length-drop, length-map}
 use lib.Dec.{T, leb, eqb}
 use Rattle.rules.specs.Basics.{at, all, range}
-use Rattle.rules.specs.Numbers.{Bytes}
-use Rattle.rules.specs.Fields.{Answer, refused, got, ask, after, numberOf, value, whole}
+use Rattle.rules.specs.Fields.{Answer, refused, got, ask, after, numberOf, value}
 use Rattle.rules.specs.Needs.{Need, NeedsIn, circleFree}
 use Rattle.rules.specs.JobFile.{Job, JobFile, nthJob, nameOk, jobOf, readFile}
-use Rattle.rules.specs.Table.{Row, Table, nthRow, starts, boardsOf, rowOf, decode, labelled, sized, apartb, needsKept, rowStart}
+use Rattle.rules.specs.Table.{Row, nthRow, starts, boardsOf, rowOf, decode, labelled, needsKept, rowStart}
 use Rattle.rules.specs.Answers.{check}
 use Rattle.laws.specs.Tests.{tests, T-and, T-leb, T-all, bool-ext}
 use Rattle.laws.specs.Lists.{nth-mem, tabulate-at}
 use Rattle.laws.specs.Counting.{range-below}
 use Rattle.laws.specs.Fields.{ask-yes, ask-no}
 use Rattle.laws.specs.JobFile.{Readable, readable}
-use Rattle.laws.specs.Check.{q15, q16, q17, q18}
+use Rattle.laws.specs.Check.{q15, q16, q18}
 use Rattle.laws.specs.Refusals.{read-got}
 use Rattle.laws.specs.Numbers.{bytes-all}
 use Rattle.jobset.specs.Arrays.{GiversAre}
 use Rattle.jobfile.specs.Reading.{Held, Reads}
 use Rattle.windows.specs.Levels.{levelsOf}
 use Rattle.windows.specs.LevelLaws.{levels-ok}
-use Rattle.rows.specs.Rows.{isRow, rowNumber, tableOf, Few, Holds, Decodes}
+use Rattle.rows.specs.Rows.{rowNumber, tableOf, Holds, Decodes}
 use Rattle.rows.specs.RowWays.{IsRow, row-is}
 use Rattle.questions.specs.Questions.{labelledBy, Placed, labelledIn, setsKept}
 use Rattle.questions.specs.QuestionLaws.{kept-is}

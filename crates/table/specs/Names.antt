@@ -5,11 +5,10 @@ use mathlib.Core.List.{List, [], _∷_}
 use Prim.Native.Nat.{ℕ, zero, suc, _+_, _-_, _*_, _≤_, _<_}
 use native.Mathlib.Omega.{arith}
 use lib.ListN.{length, take, drop}
-use lib.Seq.{drop-drop, take-nil, drop-nil}
+use lib.Seq.{drop-drop, take-nil}
 use lib.Dec.{T, leb}
 use Rattle.rules.specs.Sizes.{maxJobs, maxLimit}
-use Rattle.rules.specs.Basics.{tabulate}
-use Rattle.rules.specs.Fields.{Answer, refused, got, ask, after, part, fieldEnd, value}
+use Rattle.rules.specs.Fields.{Answer, refused, got, after, part, fieldEnd, value}
 use Rattle.rules.specs.Table.{Row, Table, nthRow, starts, boardsOf, rowOf, decode, sized, apartb, rowStart}
 use Rattle.rules.specs.Answers.{jobAt, lookupTable, lookup, nameSpan, nameAt}
 use Rattle.laws.specs.Tests.{T-and, T-leb}
@@ -17,7 +16,7 @@ use Rattle.laws.specs.Lists.{tabulate-at}
 use Rattle.laws.specs.Fields.{ask-got, after-got, whole-is, length-value}
 use Rattle.laws.specs.Check.{decoded-few}
 use Rattle.rows.specs.Rows.{isRow, rowNumber, tableOf}
-use Rattle.rows.specs.RowWays.{IsRow, row-is}
+use Rattle.rows.specs.RowWays.{row-is}
 use Rattle.rows.specs.Decoded.{decoded-is}
 use Rattle.table.specs.Lookup.{job-in}
 use Rattle.table.specs.Entries.{placeOf, partOf}

@@ -4,11 +4,11 @@ use mathlib.Core.Bool.{true}
 use mathlib.Core.List.{List, map}
 use Prim.Native.Nat.{ℕ, _-_, _≤_, _<_}
 use native.Mathlib.Omega.{arith}
-use Rattle.rules.specs.Needs.{Need, Gives, givesb, NeedsIn, Chain, one, more, circleFree}
+use Rattle.rules.specs.Needs.{Need, Gives, givesb, NeedsIn, circleFree}
 use Rattle.rules.specs.Windows.{swap}
 use Rattle.laws.specs.Tests.{T-true, bool-ext}
 use Rattle.laws.specs.Program.{gives-is}
-use Rattle.laws.specs.Circles.{snoc, circle-free}
+use Rattle.laws.specs.Circles.{circle-free}
 use Rattle.laws.specs.Deadlines.{swap-gives, swap-in, reversed-chain}
 use Rattle.jobset.specs.Sets.{member, setAt}
 use Rattle.jobset.specs.Arrays.{GiversAre, TakersAre}

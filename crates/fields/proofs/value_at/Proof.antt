@@ -1,6 +1,5 @@
 -- `fields::value_at` meets its contract. Assumes nothing.
 use Rattle.fields.specs.Fields.{head-in, value-ends, value-part}
-use native.Mathlib.Omega.{arith}
 use mathlib.Core.Path.{_∙_}
 use borrow.Author.Needs.{needs}
 use Rattle.fields.proofs.value_at.Statement.{statement}

@@ -6,7 +6,6 @@ use lib.Seq.{length-take-le}
 use mathlib.Core.Path.{sym}
 use mathlib.Core.Path.{_≡_}
 use Prim.Native.Nat.{_≤_, _-_}
-use native.Mathlib.Omega.{arith}
 use borrow.Author.Needs.{needs}
 use lib.ListN.{length}
 use Rattle.files.proofs.fill.Statement.{statement}

@@ -2,7 +2,7 @@
 use Rattle.rows.specs.RowWays.{head-not-whole, head-in, other-head, other-size, edition-in, edition-by}
 use Rattle.laws.specs.Tests.{T-true}
 use borrow.Author.Tests.{not-true, not-false}
-use mathlib.Core.Path.{sym, ap, _∙_}
+use mathlib.Core.Path.{sym, _∙_}
 use borrow.Author.Needs.{needs}
 use Rattle.rows.proofs.head_ok.Statement.{statement}
 use Rattle.rows.proofs.head_ok.Tie as tie

@@ -3,9 +3,7 @@ use Rattle.table.specs.Finding.{not-read, fits, no-rows, bad-cells, idle
 use Rattle.rows.specs.RowWays.{row-is}
 use lib.Seq.{length-take-le}
 use borrow.Author.Tests.{not-true, not-false}
-use native.Mathlib.Omega.{arith}
-use mathlib.Core.Bool.{true}
-use mathlib.Core.Path.{_≡_, sym, _∙_}
+use mathlib.Core.Path.{sym, _∙_}
 use borrow.Author.Needs.{needs}
 use Rattle.table.proofs.places.find.Statement.{statement}
 use Rattle.table.proofs.places.find.Tie as tie

@@ -1,6 +1,6 @@
 -- `table::places::runs_at` meets its contract. Assumes nothing.
 use borrow.Author.Tests.{eq-eqb, ne-eqb}
-use mathlib.Core.Path.{sym, ap, _∙_}
+use mathlib.Core.Path.{sym, _∙_}
 use borrow.Author.Needs.{needs}
 use Rattle.table.proofs.places.runs_at.Statement.{statement}
 use Rattle.table.proofs.places.runs_at.Tie as tie
