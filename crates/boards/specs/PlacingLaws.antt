@@ -44,6 +44,7 @@ module _ (n : ℕ) (needs : List Need) (t givers starts : List ℕ) (h : ArraysH
   in-slots : (i : ℕ) → i < n → at t i < slots t
   unfolding slots
   in-slots i l = omega (arith, at-largest t i (omega (arith, h .len)))
+
   -- the sets of the slots
   runs : List ℕ
   runs = slotSets starts (replicate 64 0) n

@@ -46,6 +46,7 @@ union-subset s t u f g j p = go (in-union s t j .0 p)
     go : (member s j ≡ true) ⊎ (member t j ≡ true) → member u j ≡ true
     go (inl q) = f j q
     go (inr q) = g j q
+
 pub intersection-subset : (s t : Set) → Subset (intersection s t) t
 unfolding Subset
 intersection-subset s t j p = in-intersection s t j .0 p .1
