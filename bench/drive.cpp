@@ -19,8 +19,7 @@
 #include <valgrind/callgrind.h>
 #include <vector>
 
-extern "C" Found product_search(const uint64_t *givers, const uint64_t *takers, const uint64_t *released, const uint64_t *followed,
-                                size_t least, size_t limit, uint8_t *dead, size_t dead_len);
+extern "C" Found product_search(const Tables *tables, size_t least, size_t limit, uint8_t *dead, size_t dead_len);
 
 namespace {
 
@@ -41,8 +40,7 @@ struct Calls {
     void whole() { answer = gate_plan(file.data(), file.size(), work, sizeof work, table, sizeof table); }
     void other_whole() { other_answer = baseline_plan(file.data(), file.size(), work, sizeof work, other_table, sizeof other_table); }
     void search() {
-        const Tables &t = jobs.t;
-        new (&found) Found(product_search(t.givers, t.takers, t.released, t.followed, jobs.least, jobs.limit, work, sizeof work));
+        new (&found) Found(product_search(&jobs.t, jobs.least, jobs.limit, work, sizeof work));
     }
     void other_search() { baseline_search(&jobs.t, jobs.least, jobs.limit, work, &other_found); }
 };

@@ -4,6 +4,9 @@ ghost use Prim.Native.Nat.{_*_, _<_, _≤_};
 ghost use lib.ListN.{length};
 ghost use Rattle.bitmap.specs.Marks.{isMarked, withMark, cleared};
 
+// The byte with each of its marks alone.
+const MARKS: [u8; 8] = [1, 2, 4, 8, 16, 32, 64, 128];
+
 // Is mark k set?
 pub fn marked(bytes: &[u8], k: usize) -> bool
     requires { ⌜ k < 8 * length (now bytes) ⌝ }
@@ -20,7 +23,7 @@ pub fn mark(bytes: &mut [u8], k: usize)
 {
     let i = k / 8;
     let byte = bytes[i];
-    bytes[i] = byte | (1 << (k % 8));
+    bytes[i] = byte | MARKS[k % 8];
 }
 
 // Clears the first n bytes.

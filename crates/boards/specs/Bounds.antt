@@ -13,7 +13,7 @@ use Rattle.jobset.specs.declared.Set.{Set}
 use Rattle.jobset.specs.Sets.{digit, member, setAt, empty, isEmpty, lowest, fallingFrom, falling}
 use Rattle.jobset.specs.Lowest.{below-lowest}
 use Rattle.jobset.specs.Highest.{falling-few, falling-member, falling-without, falling-with}
-use Rattle.boards.specs.Placing.{Slot, allBoards, takes, left, giversIn, inherit, takeLowest, each, fresh, inherited, placeOthers, placeSlot, placeSlots, Below64}
+use Rattle.boards.specs.Placing.{Slot, allBoards, takes, left, lastGivers, inherit, takeLowest, each, fresh, inherited, placeOthers, placeSlot, placeSlots, Below64}
 
 -- a store keeps the bound
 below-set : (b : List ℕ) (p c : ℕ) → c < 64 → Below64 b → Below64 (set b p c)
@@ -38,14 +38,14 @@ Room k z = k + length (falling (z .others)) ≤ length (falling (z .free))
 inherit-room : (givers : List ℕ) (last : Set) (p k : ℕ) (z : Slot) → Room (suc k) z → Room k (inherit givers last p z)
 unfolding inherit takes left
 inherit-room givers last p k z h =
-    by-choice (Room k) (isEmpty (giversIn givers last p)) (λ _. omega (arith, falling-with (z .others) p))
-    (λ _. omega (arith, falling-without (z .free) (at (z .boards) (lowest (giversIn givers last p)))))
+    by-choice (Room k) (isEmpty (lastGivers givers last p)) (λ _. omega (arith, falling-with (z .others) p))
+    (λ _. omega (arith, falling-without (z .free) (at (z .boards) (lowest (lastGivers givers last p)))))
 
 pub inherit-below : (givers : List ℕ) (last : Set) (p : ℕ) (z : Slot) → Below64 (z .boards) → Below64 (inherit givers last p z .boards)
 unfolding inherit takes left
 inherit-below givers last p z f =
-    by-choice (λ (w : Slot). Below64 (w .boards)) (isEmpty (giversIn givers last p)) (λ _. f)
-    (λ _. below-set (z .boards) p (at (z .boards) (lowest (giversIn givers last p))) (f (lowest (giversIn givers last p))) f)
+    by-choice (λ (w : Slot). Below64 (w .boards)) (isEmpty (lastGivers givers last p)) (λ _. f)
+    (λ _. below-set (z .boards) p (at (z .boards) (lowest (lastGivers givers last p))) (f (lowest (lastGivers givers last p))) f)
 
 inherit-each-room : (givers : List ℕ) (last : Set) (ps : List ℕ) (z : Slot) → Room (length ps) z → Room 0 (each (inherit givers last) ps z)
 unfolding each

@@ -18,7 +18,7 @@ use Rattle.jobset.specs.Tests.{bool-ext}
 use Rattle.jobset.specs.Membership.{member-empty, in-one, in-intersection, set-ext}
 use Rattle.jobset.specs.Lowest.{lowest-member}
 use Rattle.jobset.specs.Arrays.{GiversAre}
-use Rattle.boards.specs.Placing.{Slot, takes, left, giversIn, inherit}
+use Rattle.boards.specs.Placing.{Slot, takes, left, lastGivers, inherit}
 use Rattle.boards.specs.ByPlace.{Places}
 
 -- a set without members is empty, one with a member is not
@@ -41,8 +41,8 @@ not-empty S q m = go (eqb (S .bits) 0) refl
 module _ (n : ℕ) (few : n ≤ 64) (needs : List Need) (needs-in : NeedsIn n needs) (t : List ℕ) (kept : Kept (Gives needs) (at t))
     (givers : List ℕ) (are : GiversAre givers needs) (s : ℕ) (last : Set) (before : Places last (λ i. (i < n) × (at t i + 1 ≡ s))) (x : ℕ) (lx : x < n) where
   -- each member is a giver that runs in the slot before
-  in-givers : (q : ℕ) → member (giversIn givers last (63 - x)) q ≡ true → (q < 64) × Gives needs (63 - q) x × (at t (63 - q) + 1 ≡ s)
-  unfolding giversIn
+  in-givers : (q : ℕ) → member (lastGivers givers last (63 - x)) q ≡ true → (q < 64) × Gives needs (63 - q) x × (at t (63 - q) + 1 ≡ s)
+  unfolding lastGivers
   in-givers q m =
       let w = in-intersection (setAt givers (63 - x)) last q .0 m in
       let l = before .only q (w .1) in
@@ -50,8 +50,8 @@ module _ (n : ℕ) (few : n ≤ 64) (needs : List Need) (needs-in : NeedsIn n ne
       (l .0, gives-is needs (63 - q) x .0 (T-true (givesb needs (63 - q) x) .1 (sym (are x (63 - q) (omega arith) (omega arith)) ∙ (rw e (w .0)))), l .1 .1)
 
   -- and each such giver is a member
-  givers-in : (g : ℕ) → Gives needs g x → at t g + 1 ≡ s → member (giversIn givers last (63 - x)) (63 - g) ≡ true
-  unfolding giversIn
+  givers-in : (g : ℕ) → Gives needs g x → at t g + 1 ≡ s → member (lastGivers givers last (63 - x)) (63 - g) ≡ true
+  unfolding lastGivers
   givers-in g a e =
       let l : g < n = needs-in g x a .0 in
       in-intersection (setAt givers (63 - x)) last (63 - g) .1
@@ -60,15 +60,15 @@ module _ (n : ℕ) (few : n ≤ 64) (needs : List Need) (needs-in : NeedsIn n ne
   -- without a giver there, the job is left to the others
   pub inherit-nobody : (z : Slot) → ((g : ℕ) → Gives needs g x → at t g + 1 ≡ s → ⊥) → inherit givers last (63 - x) z ≡ left (63 - x) z
   unfolding inherit choose
-  inherit-nobody z none = rw (empty-is (giversIn givers last (63 - x)) (λ q m. let w = in-givers q m in none (63 - q) (w .1) (w .2)))
+  inherit-nobody z none = rw (empty-is (lastGivers givers last (63 - x)) (λ q m. let w = in-givers q m in none (63 - q) (w .1) (w .2)))
 
   -- with one, it takes that giver's board
   pub inherit-giver : (z : Slot) (g : ℕ) → Gives needs g x → at t g + 1 ≡ s → at t x ≡ s → inherit givers last (63 - x) z ≡ takes (63 - x) (at (z .boards) (63 - g)) z
   unfolding inherit choose
   inherit-giver z g a e h = rw (lone, not-empty (one (63 - g)) (63 - g) (in-one (63 - g) (63 - g) .1 refl), lowest-one)
     where
-      lone : giversIn givers last (63 - x) ≡ one (63 - g)
-      lone = set-ext (giversIn givers last (63 - x)) (one (63 - g)) (λ q. bool-ext (member (giversIn givers last (63 - x)) q) (member (one (63 - g)) q)
+      lone : lastGivers givers last (63 - x) ≡ one (63 - g)
+      lone = set-ext (lastGivers givers last (63 - x)) (one (63 - g)) (λ q. bool-ext (member (lastGivers givers last (63 - x)) q) (member (one (63 - g)) q)
           (λ m. let w = in-givers q m in
           let same : 63 - q ≡ g = kept .take-one (63 - q) g x (w .1) a (w .2 ∙ sym h) (e ∙ sym h) in
           in-one (63 - g) q .1 (omega (arith, w .0)))

@@ -34,13 +34,13 @@ unfoldable pub left : ℕ → Slot → Slot
 left p z = record { free = z .free; others = with (z .others) p; boards = z .boards }
 
 -- the givers of the job at place p in the slot before
-unfoldable pub giversIn : List ℕ → Set → ℕ → Set
-giversIn givers last p = intersection (setAt givers p) last
+unfoldable pub lastGivers : List ℕ → Set → ℕ → Set
+lastGivers givers last p = intersection (setAt givers p) last
 
 -- the job at place p takes the board of its giver in the slot before; without one it is left to the others
 unfoldable pub inherit : List ℕ → Set → ℕ → Slot → Slot
 inherit givers last p z =
-    let before = giversIn givers last p in
+    let before = lastGivers givers last p in
     choose (isEmpty before) (left p z) (takes p (at (z .boards) (lowest before)) z)
 
 -- the job at place p takes the lowest board left

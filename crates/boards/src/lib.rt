@@ -2,10 +2,11 @@
 //
 // Jobs are counted from 0 here. In sets, and in every array, job i stands at place 63 - i (crate jobset): so the jobs of a set in
 // rising number are its members from the highest down. Within a slot boards are counted from 0 too: board c is member c of a set.
+// Of the tables of a job file the first 64 sets are used: set p has the givers of the job at place p.
 use fields::greater;
 use jobset::Set;
 ghost use mathlib.Core.Path.{_≡_};
-ghost use Prim.Native.Nat.{ℕ, _-_, _<_, _≤_, max};
+ghost use Prim.Native.Nat.{ℕ, _-_, _<_, _≤_};
 ghost use lib.ListN.{length};
 ghost use Rattle.jobset.specs.Sets.{empty, falling};
 ghost use Rattle.rules.specs.Basics.{at, most};
@@ -45,17 +46,17 @@ struct Columns {
 // The job at place p takes the board of its giver in the slot before; without one it is left to the others.
 fn inherit(
     z: Inherited,
-    givers: &[u64; 64],
+    tables: &[u64; 260],
     last: Set,
     p: usize,
     boards: &mut [u8; 64],
 ) -> Inherited
     requires { ⌜ (p < 64) × Below64 (now boards) ⌝ }
-    ensures { λ r. ⌜ slotOf r (now (boards .exit)) ≡ inherit (now (givers .entry)) last p (slotOf z (now (boards .entry))) ⌝ }
+    ensures { λ r. ⌜ slotOf r (now (boards .exit)) ≡ inherit (now (tables .entry)) last p (slotOf z (now (boards .entry))) ⌝ }
 {
     let free = z.free;
     let others = z.others;
-    let all = Set { bits: givers[p] };
+    let all = Set { bits: tables[p] };
     let before = all.intersection(last);
     if before.is_empty() {
         return Inherited {
@@ -73,9 +74,9 @@ fn inherit(
 }
 
 // The jobs of a slot that have a giver in the slot before take its board.
-fn inherit_all(givers: &[u64; 64], last: Set, jobs: Set, boards: &mut [u8; 64]) -> Inherited
+fn inherit_all(tables: &[u64; 260], last: Set, jobs: Set, boards: &mut [u8; 64]) -> Inherited
     requires { ⌜ Below64 (now boards) ⌝ }
-    ensures { λ r. ⌜ slotOf r (now (boards .exit)) ≡ inherited (now (givers .entry)) last jobs (now (boards .entry)) ⌝ }
+    ensures { λ r. ⌜ slotOf r (now (boards .exit)) ≡ inherited (now (tables .entry)) last jobs (now (boards .entry)) ⌝ }
 {
     let mut z = Inherited {
         free: ALL_BOARDS,
@@ -85,7 +86,7 @@ fn inherit_all(givers: &[u64; 64], last: Set, jobs: Set, boards: &mut [u8; 64]) 
     while !rest.is_empty() {
         let p = rest.highest() as usize;
         rest = rest.without(p);
-        z = inherit(z, givers, last, p, boards);
+        z = inherit(z, tables, last, p, boards);
     }
     z
 }
@@ -107,11 +108,11 @@ fn take_lowest(z: Inherited, boards: &mut [u8; 64])
 }
 
 // The jobs of one slot get their boards.
-fn place_slot(givers: &[u64; 64], last: Set, jobs: Set, boards: &mut [u8; 64])
+fn place_slot(tables: &[u64; 260], last: Set, jobs: Set, boards: &mut [u8; 64])
     requires { ⌜ Below64 (now boards) ⌝ }
-    ensures { λ _. ⌜ now (boards .exit) ≡ placeSlot (now (givers .entry)) last jobs (now (boards .entry)) ⌝ }
+    ensures { λ _. ⌜ now (boards .exit) ≡ placeSlot (now (tables .entry)) last jobs (now (boards .entry)) ⌝ }
 {
-    let z = inherit_all(givers, last, jobs, boards);
+    let z = inherit_all(tables, last, jobs, boards);
     take_lowest(z, boards);
 }
 
@@ -132,15 +133,15 @@ fn slot_sets(starts: &[u8; 64], jobs: usize, runs: &mut [u64; 64])
 }
 
 // All slots, one after the other.
-fn place_slots(givers: &[u64; 64], runs: &[u64; 64], slots: usize, boards: &mut [u8; 64])
+fn place_slots(tables: &[u64; 260], runs: &[u64; 64], slots: usize, boards: &mut [u8; 64])
     requires { ⌜ (slots ≤ 64) × Below64 (now boards) ⌝ }
-    ensures { λ _. ⌜ now (boards .exit) ≡ placeSlots (now (givers .entry)) (now (runs .entry)) slots 0 empty (now (boards .entry)) ⌝ }
+    ensures { λ _. ⌜ now (boards .exit) ≡ placeSlots (now (tables .entry)) (now (runs .entry)) slots 0 empty (now (boards .entry)) ⌝ }
 {
     let mut last = Set::EMPTY;
     let mut s = 0;
     while s < slots {
         let jobs = Set { bits: runs[s] };
-        place_slot(givers, last, jobs, boards);
+        place_slot(tables, last, jobs, boards);
         last = jobs;
         s += 1;
     }
@@ -164,14 +165,14 @@ fn number_boards(boards: &mut [u8; 64], jobs: usize) -> usize
 }
 
 // The boards of so many jobs that start as `starts` says, all before `slots`.
-pub fn place(givers: &[u64; 64], starts: &[u8; 64], jobs: usize, slots: usize) -> Placed
+pub fn place(tables: &[u64; 260], starts: &[u8; 64], jobs: usize, slots: usize) -> Placed
     requires { ⌜ Startable (now starts) jobs slots ⌝ }
-    ensures { λ r. ⌜ r ≡ placed (now (givers .entry)) (now (starts .entry)) jobs slots ⌝ }
+    ensures { λ r. ⌜ r ≡ placed (now (tables .entry)) (now (starts .entry)) jobs slots ⌝ }
 {
     let mut runs = [0; 64];
     slot_sets(starts, jobs, &mut runs);
     let mut boards = [0; 64];
-    place_slots(givers, &runs, slots, &mut boards);
+    place_slots(tables, &runs, slots, &mut boards);
     let count = number_boards(&mut boards, jobs);
     Placed { count, boards }
 }
@@ -198,12 +199,12 @@ fn with_start(c: Columns, i: usize, r: JobRecord) -> Columns
 }
 
 // The placing over arrays.
-fn place_columns(c: Columns, givers: &[u64; 64], jobs: usize, slots: usize) -> Columns
+fn place_columns(c: Columns, tables: &[u64; 260], jobs: usize, slots: usize) -> Columns
     requires { ⌜ Startable (c .starts) jobs slots ⌝ }
-    ensures { λ t. ⌜ t ≡ placeColumns c (now (givers .entry)) jobs slots ⌝ }
+    ensures { λ t. ⌜ t ≡ placeColumns c (now (tables .entry)) jobs slots ⌝ }
 {
     let starts = c.starts;
-    let p = place(givers, &starts, jobs, slots);
+    let p = place(tables, &starts, jobs, slots);
     let boards = p.boards;
     Columns {
         count: p.count,
@@ -224,9 +225,9 @@ fn record_of(c: Columns, i: usize) -> JobRecord
 }
 
 // The boards of a lent row of job records: copied out, placed over arrays, written back. Gives the number of boards.
-pub fn place_rows(rows: &mut [JobRecord], givers: &[u64; 64], slots: usize) -> usize
+pub fn place_rows(rows: &mut [JobRecord], tables: &[u64; 260], slots: usize) -> usize
     requires { ⌜ RowsStartable (now rows) slots ⌝ }
-    ensures { λ r. ⌜ record { count = r; rows = now (rows .exit) } ≡ placeRows (now (givers .entry)) slots (now (rows .entry)) ⌝ }
+    ensures { λ r. ⌜ record { count = r; rows = now (rows .exit) } ≡ placeRows (now (tables .entry)) slots (now (rows .entry)) ⌝ }
 {
     let mut c = blank_columns();
     let mut i = 0;
@@ -234,7 +235,7 @@ pub fn place_rows(rows: &mut [JobRecord], givers: &[u64; 64], slots: usize) -> u
         c = with_start(c, i, rows[i]);
         i += 1;
     }
-    c = place_columns(c, givers, i, slots);
+    c = place_columns(c, tables, i, slots);
     i = 0;
     while i < rows.len() {
         rows[i] = record_of(c, i);

@@ -3,9 +3,8 @@
 use mathlib.Core.Bool.{Bool, true, false}
 use mathlib.Core.List.{List, [], _∷_, _++_}
 use Prim.Native.Nat.{ℕ, zero, suc, _+_, _*_}
-use lib.Dec.{eqb}
 use lib.ListN.{set}
-use Rattle.rules.specs.Basics.{choose, at}
+use Rattle.rules.specs.Basics.{choose}
 use Rattle.jobset.specs.declared.Set.{Set}
 use Rattle.jobset.specs.Sets.{digit, union, isSubset, members}
 use Rattle.bitmap.specs.Marks.{isMarked, withMark}
@@ -35,9 +34,9 @@ unfoldable pub written : ℕ → List ℕ → List ℕ → List ℕ
 written slot [] path = path
 written slot (x ∷ xs) path = set (written (slot + 1) xs path) slot x
 
--- all jobs are done
+-- all jobs are done: those that need no slot behind them
 unfoldable pub isDone : Tables → Set → Bool
-isDone T done = eqb (done .bits) (at (T .followed) 0)
+isDone T done = isSubset (dueAt T 0) done
 
 -- ---- without a memo
 

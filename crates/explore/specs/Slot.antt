@@ -5,6 +5,7 @@ use Prim.Native.Nat.{ℕ, _+_}
 use Rattle.rules.specs.Basics.{choose, all}
 use Rattle.jobset.specs.declared.Set.{Set}
 use Rattle.jobset.specs.Sets.{setAt, empty, with, union, minus, intersection, isSubset, isEmpty, isOne, members}
+use Rattle.jobset.specs.Arrays.{giversIn, takersIn, releasedIn, followedIn}
 use Rattle.explore.specs.declared.Candidates.{Candidates}
 
 -- what the search knows of a job file, all as sets of places: the givers and the takers of each job,
@@ -17,6 +18,10 @@ pub record Tables : Type 0 where
 
 abbrev pub tables : List ℕ → List ℕ → List ℕ → List ℕ → Tables
 tables givers takers released followed = record { givers = givers; takers = takers; released = released; followed = followed }
+
+-- the tables that are parts of one array
+abbrev pub tablesIn : List ℕ → Tables
+tablesIn sets = tables (giversIn sets) (takersIn sets) (releasedIn sets) (followedIn sets)
 
 -- ---- the windows, at a slot with `left` slots left, itself among them
 

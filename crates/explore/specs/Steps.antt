@@ -6,12 +6,11 @@ use mathlib.Core.List.{List}
 use Prim.Native.Nat.{ℕ, zero, suc, _+_, _-_, _<_}
 use native.Mathlib.Numerals.{add-one}
 use native.Mathlib.Omega.{arith}
-use borrow.Author.Tests.{eq-eqb, ne-eqb, eqb-true, eqb-false, not-true, not-false}
-use lib.Dec.{eqb}
+use borrow.Author.Tests.{eqb-true, eqb-false}
 use Rattle.rules.specs.Basics.{choose, at}
 use Rattle.laws.specs.Tests.{by-choice}
 use Rattle.jobset.specs.declared.Set.{Set}
-use Rattle.jobset.specs.Sets.{setAt, union, isSubset, isEmpty, nextBelow, Subset}
+use Rattle.jobset.specs.Sets.{union, isSubset, isEmpty, nextBelow, Subset}
 use Rattle.jobset.specs.Inclusion.{is-subset}
 use Rattle.jobset.specs.FallingSubsets.{no-subset-between, next-less}
 use Rattle.bitmap.specs.Marks.{isMarked, withMark}
@@ -21,22 +20,16 @@ use Rattle.explore.specs.Model.{Plan, noPlan, finished, slotThen, isDone
 
 -- ---- at a state
 
--- no slot is left, or a job that is not done is due
-unfoldable pub isLost : List ℕ → ℕ → Set → Bool
-isLost followed left done = choose (eqb left 0) true (not (isSubset (setAt followed left) done))
-
--- not lost: slots are left, and no job is late
+-- slots are left, and no job is late
 pub record InTime (T : Tables) (left : ℕ) (done : Set) : Type 0 where
   pub some-left : 0 < left
   pub due-done : isSubset (dueAt T left) done ≡ true
 
-pub in-time : (T : Tables) (left : ℕ) (done : Set) → isLost (T .followed) left done ≡ false → InTime T left done
-unfolding isLost choose dueAt
-in-time T left done h = go (eqb left 0) refl h
-  where
-    go : (b : Bool) → eqb left 0 ≡ b → choose b true (not (isSubset (setAt (T .followed) left) done)) ≡ false → InTime T left done
-    go true e h = absurd (true≢false h)
-    go false e h = record { some-left = omega (arith, eqb-false left 0 e); due-done = not-false (isSubset (setAt (T .followed) left) done) h }
+-- where not all jobs are done, but those that are due
+pub in-time : (T : Tables) (left : ℕ) (done : Set) → isDone T done ≡ false → isSubset (dueAt T left) done ≡ true → InTime T left done
+unfolding isDone
+in-time T zero done n h = absurd (true≢false (sym h ∙ n))
+in-time T (suc left) done n h = record { some-left = omega arith; due-done = h }
 
 -- what follows a slot
 unfoldable pub after : Tables → ℕ → ℕ → Set → Set → List ℕ → Explored
@@ -51,38 +44,33 @@ unfoldable pub tries : Tables → ℕ → ℕ → Set → Candidates → ℕ →
 tries T left slot done c n dead = exploreBelow (after T left slot) T done c n dead
 
 module _ (T : Tables) (slot : ℕ) (done last : Set) (dead : List ℕ) where
-  -- not all jobs are done
-  abbrev pub NotDone : Type 0
-  NotDone = done .bits ≡ at (T .followed) 0 → ⊥
-
   abbrev keyAt : ℕ → ℕ
   keyAt left = key (T .released) (T .followed) left slot done last
 
   -- all jobs are done
-  pub explored-done : (left : ℕ) → done .bits ≡ at (T .followed) 0 → explored T left slot done last dead ≡ atOnce finished dead
-  unfolding explored isDone choose
-  explored-done zero e = rw (eq-eqb (done .bits) (at (T .followed) 0) e)
-  explored-done (suc n) e = rw (eq-eqb (done .bits) (at (T .followed) 0) e)
+  pub explored-done : (left : ℕ) → isDone T done ≡ true → explored T left slot done last dead ≡ atOnce finished dead
+  unfolding explored choose
+  explored-done zero e = rw (e)
+  explored-done (suc n) e = rw (e)
 
-  -- no slot is left, or a job is late
-  pub explored-lost : (left : ℕ) → NotDone → isLost (T .followed) left done ≡ true → explored T left slot done last dead ≡ atOnce noPlan dead
-  unfolding explored isDone isLost dueAt choose
-  explored-lost zero n h = rw (ne-eqb (done .bits) (at (T .followed) 0) n)
-  explored-lost (suc left) n h =
-      rw (ne-eqb (done .bits) (at (T .followed) 0) n, not-true (isSubset (setAt (T .followed) (suc left)) done) (rw (ne-eqb (suc left) 0 (λ e. omega arith)) at h))
+  -- a job that is not done is due
+  pub explored-late : (left : ℕ) → isDone T done ≡ false → isSubset (dueAt T left) done ≡ false → explored T left slot done last dead ≡ atOnce noPlan dead
+  unfolding explored choose
+  explored-late zero n h = rw (n)
+  explored-late (suc left) n h = rw (n, h)
 
   -- the state is marked
-  pub explored-marked : (left : ℕ) → NotDone → InTime T left done → isMarked dead (keyAt left) ≡ true → explored T left slot done last dead ≡ atOnce noPlan dead
-  unfolding explored isDone choose
+  pub explored-marked : (left : ℕ) → isDone T done ≡ false → InTime T left done → isMarked dead (keyAt left) ≡ true → explored T left slot done last dead ≡ atOnce noPlan dead
+  unfolding explored choose
   explored-marked zero n i m = absurd (omega (arith, i .some-left))
-  explored-marked (suc left) n i m = rw (ne-eqb (done .bits) (at (T .followed) 0) n, i .due-done, m)
+  explored-marked (suc left) n i m = rw (n, i .due-done, m)
 
   -- the state is opened
-  pub explored-open : (left : ℕ) → NotDone → InTime T left done → isMarked dead (keyAt left) ≡ false
+  pub explored-open : (left : ℕ) → isDone T done ≡ false → InTime T left done → isMarked dead (keyAt left) ≡ false
       → explored T left slot done last dead ≡ opening (keyAt left) (tries T left slot done (candidatesAt T left slot done last) (suc (candidatesAt T left slot done last .tied .bits)) dead)
-  unfolding explored isDone choose tries
+  unfolding explored choose tries
   explored-open zero n i m = absurd (omega (arith, i .some-left))
-  explored-open (suc left) n i m = rw (ne-eqb (done .bits) (at (T .followed) 0) n, i .due-done, m, after-suc T left slot)
+  explored-open (suc left) n i m = rw (n, i .due-done, m, after-suc T left slot)
 
 -- ---- at a subset of the tied jobs
 

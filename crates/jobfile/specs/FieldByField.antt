@@ -4,15 +4,19 @@ use mathlib.Core.Bool.{Bool, true, false, _&&_}
 use mathlib.Core.List.{List}
 use Prim.Native.Nat.{ℕ, _+_, _-_, _≤_, _<_}
 use native.Mathlib.Omega.{arith}
-use lib.ListN.{length, take, drop, replicate, length-replicate, getD-replicate}
-use lib.Dec.{T, eqb, ltb}
+use lib.ListN.{length, take, drop, replicate, length-drop, length-replicate, getD-replicate}
+use lib.Seq.{length-take-le}
+use lib.Dec.{T, eqb, ltb, lit<}
 use Rattle.rules.specs.Basics.{choose, at, any}
 use Rattle.rules.specs.Fields.{Answer, refused, got, ask, after, part, fieldEnd, value, whole, overFields}
 use Rattle.rules.specs.Needs.{givesb}
 use Rattle.rules.specs.JobFile.{JobFile, knownTag, inPlace, lengthOk, contentOk, addField, readField, noFields}
 use Rattle.laws.specs.Tests.{by-choice}
 use Rattle.laws.specs.Fields.{whole-is, after-head, overFields-step, overFields-end}
+use Rattle.jobset.specs.declared.Set.{Set}
+use Rattle.jobset.specs.Sets.{setAt, empty}
 use Rattle.jobset.specs.Membership.{member-empty}
+use Rattle.jobset.specs.Arrays.{giversIn, takersIn, set-in-part}
 use Rattle.jobfile.specs.declared.FieldAnswer.{FieldAnswer}
 use Rattle.jobfile.specs.declared.FieldAnswer.the-variants.{Field, Refused}
 use Rattle.jobfile.specs.declared.Counts.{Counts}
@@ -132,20 +136,28 @@ module _ (bs : List ℕ) (a : ℕ) (f : JobFile) (next : ToCome bs a f) where
 
 -- ---- the start
 
--- before the first field, with empty arrays
-pub start-held : (bs : List ℕ) → Held bs noFields (record { fields = 0; limit = 0; jobs = 0; offsets = replicate 64 0; givers = replicate 64 0; takers = replicate 64 0 })
+-- before the first field, with no need in the tables
+pub start-held : (bs offsets tables : List ℕ) → length offsets ≡ 64 → tables ≡ replicate 260 0
+    → Held bs noFields (record { fields = 0; limit = 0; jobs = 0; offsets = offsets; givers = giversIn tables; takers = takersIn tables })
 unfolding noFields givesb any
-start-held bs = record {
+start-held bs offsets tables len e = record {
   fields-is = refl;
   limit-is = refl;
   jobs-is = refl;
   few = omega arith;
-  sizes = (length-replicate {A = ℕ} 64 0, length-replicate {A = ℕ} 64 0, length-replicate {A = ℕ} 64 0);
+  sizes = (len, length-take-le 64 tables (omega (arith, size)), length-take-le 64 (drop 64 tables) (omega (arith, size, length-drop 64 tables)));
   offsets-whole = λ i h. absurd (omega arith);
   offsets-are = λ i h. absurd (omega arith);
-  givers-are = λ x y p q. rw (getD-replicate {A = ℕ} 64 (63 - x) 0 0 (omega arith)) (member-empty (63 - y));
-  takers-are = λ x y p q. rw (getD-replicate {A = ℕ} 64 (63 - x) 0 0 (omega arith)) (member-empty (63 - y));
+  givers-are = λ x y p q. rw (blank 0 (63 - x) (omega arith) (omega arith)) (member-empty (63 - y));
+  givers-small = λ p h. rw (ap (λ (x : Set). x .bits) (blank 0 p (omega arith) h)) (lit< tt);
+  takers-are = λ x y p q. rw (blank 64 (63 - x) (omega arith) (omega arith)) (member-empty (63 - y));
 }
+  where
+    size : length tables ≡ 260
+    size = rw e (length-replicate {A = ℕ} 260 0)
+
+    blank : (m k : ℕ) → m ≤ 64 → k < 64 → setAt (take 64 (drop m tables)) k ≡ empty
+    blank m k h l = set-in-part 64 m tables k l ∙ rw (e, getD-replicate {A = ℕ} 260 (m + k) 0 0 (omega arith)) refl
 
 -- ---- a field that is taken is counted
 

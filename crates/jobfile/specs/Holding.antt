@@ -2,12 +2,14 @@
 use mathlib.Core.Path.{_≡_, refl, sym, ap, _∙_}
 use mathlib.Core.Bool.{Bool, true, false, not, _&&_, _||_, or-false, and-comm, true≢false, false≢true}
 use mathlib.Core.List.{List, [], _∷_, _++_}
-use Prim.Native.Nat.{ℕ, suc, _+_, _-_, _<_}
+use Prim.Native.Nat.{ℕ, suc, _+_, _-_, _^_, _<_}
 use native.Mathlib.Omega.{arith}
 use native.Mathlib.Decide.{ℕ-discrete}
 use borrow.Author.Tests.{eq-eqb, ne-eqb}
 use lib.ListN.{length, set, length-set, length-append, List·getD-append}
 use lib.Seq.{getD-set-same, getD-set-other, getD-append-seam}
+use lib.Bits.{or-lt}
+use lib.Pow.{pow-lt}
 use lib.Dec.{T, eqb}
 use Rattle.rules.specs.Basics.{choose, at}
 use Rattle.rules.specs.Fields.{Answer, got, ask, value, whole}
@@ -15,7 +17,7 @@ use Rattle.rules.specs.Needs.{givesb}
 use Rattle.rules.specs.JobFile.{JobFile, nthJob, counted, withLimit, withJob, withNeed, jobOf, isJob, addNeed, addField, contentOk}
 use Rattle.laws.specs.Tests.{tests, T-ltb, bool-ext}
 use Rattle.laws.specs.Lists.{any-snoc}
-use Rattle.jobset.specs.Sets.{member, setAt, with}
+use Rattle.jobset.specs.Sets.{member, setAt, one, union, with}
 use Rattle.jobset.specs.Membership.{member-with}
 use Rattle.jobset.specs.Arrays.{SetsAre}
 use Rattle.jobfile.specs.Reading.{State, linked, takeNeed, takeField, Held, Same}
@@ -37,6 +39,18 @@ sets-with sets R i j len h l are x y p q = go (ℕ-discrete x i)
     go (no n) =
         rw (getD-set-other sets (63 - i) (63 - x) (with (setAt sets (63 - i)) (63 - j) .bits) 0 (λ e. n (omega arith)), ne-eqb i x (λ e. n (sym e)))
         (are x y p q ∙ sym (or-false (R x y)))
+
+-- its numbers stay below 2 ^ 64
+small-with : (sets : List ℕ) (i j : ℕ) → length sets ≡ 64 → i < 64 → j < 64 → ((p : ℕ) → p < 64 → at sets p < 2 ^ 64)
+    → (p : ℕ) → p < 64 → at (set sets (63 - i) (with (setAt sets (63 - i)) (63 - j) .bits)) p < 2 ^ 64
+unfolding with union one
+small-with sets i j len h l small p q = go (ℕ-discrete p (63 - i))
+  where
+    go : Dec (p ≡ 63 - i) → at (set sets (63 - i) (with (setAt sets (63 - i)) (63 - j) .bits)) p < 2 ^ 64
+    go (yes e) =
+        rw (e, getD-set-same sets (63 - i) (with (setAt sets (63 - i)) (63 - j) .bits) 0 (omega arith))
+        (or-lt 64 (at sets (63 - i)) (2 ^ (63 - j)) (small (63 - i) (omega arith)) (pow-lt {i = 63 - j} {j = 64} (omega arith)))
+    go (no n) = rw (getD-set-other sets (63 - i) p (with (setAt sets (63 - i)) (63 - j) .bits) 0 n) (small p q)
 
 -- ---- the same questions keep two answers the same
 
@@ -68,6 +82,7 @@ module _ (bs : List ℕ) (f : JobFile) (s : State) (held : Held bs f s) where
     offsets-whole = held .offsets-whole;
     offsets-are = held .offsets-are;
     givers-are = held .givers-are;
+    givers-small = held .givers-small;
     takers-are = held .takers-are;
   }
 
@@ -94,6 +109,7 @@ module _ (bs : List ℕ) (f : JobFile) (s : State) (held : Held bs f s) where
     offsets-whole = λ i l. here i l (ℕ-discrete i (s .jobs)) (λ x. T (whole bs x)) w (held .offsets-whole i);
     offsets-are = λ i l. job i l (ℕ-discrete i (s .jobs));
     givers-are = held .givers-are;
+    givers-small = held .givers-small;
     takers-are = held .takers-are;
   }
     where
@@ -117,6 +133,7 @@ module _ (bs : List ℕ) (f : JobFile) (s : State) (held : Held bs f s) where
     offsets-are = held .offsets-are;
     givers-are = λ x y p q. sets-with (s .givers) _ k g (held .sizes .1) l h (held .givers-are) x y p q
         ∙ ap (λ (b : Bool). givesb (f .needs) y x || b) (and-comm (eqb k x) (eqb g y)) ∙ sym (any-snoc (λ d. eqb (d .0) y && eqb (d .1) x) (f .needs) (g, k));
+    givers-small = small-with (s .givers) k g (held .sizes .1) l h (held .givers-small);
     takers-are = λ x y p q. sets-with (s .takers) _ g k (held .sizes .2) h l (held .takers-are) x y p q ∙ sym (any-snoc (λ d. eqb (d .0) x && eqb (d .1) y) (f .needs) (g, k));
   }
 

@@ -2,7 +2,7 @@
 use mathlib.Core.Path.{_≡_}
 use mathlib.Core.Bool.{not, _&&_}
 use mathlib.Core.List.{List}
-use Prim.Native.Nat.{ℕ, _+_, _-_, _≤_, _<_}
+use Prim.Native.Nat.{ℕ, _+_, _-_, _^_, _≤_, _<_}
 use lib.ListN.{length, set}
 use lib.Dec.{T, ltb, eqb}
 use Rattle.rules.specs.Basics.{choose, at}
@@ -13,7 +13,6 @@ use Rattle.jobset.specs.Arrays.{GiversAre, TakersAre}
 use Rattle.jobfile.specs.declared.FieldAnswer.{FieldAnswer}
 use Rattle.jobfile.specs.declared.FieldAnswer.the-variants.{Field, Refused}
 use Rattle.jobfile.specs.declared.Counts.{Counts}
-use Rattle.jobfile.specs.declared.JobFile as code
 
 -- the number of a refusal; 0 for a field
 abbrev pub refusalOf : FieldAnswer → ℕ
@@ -85,6 +84,7 @@ pub record Held (bs : List ℕ) (f : JobFile) (s : State) : Type 0 where
   pub offsets-whole : (i : ℕ) → i < s .jobs → T (whole bs (at (s .offsets) i))
   pub offsets-are : (i : ℕ) → i < s .jobs → jobOf (value bs (at (s .offsets) i)) ≡ nthJob (f .jobs) i
   pub givers-are : GiversAre (s .givers) (f .needs)
+  pub givers-small : (p : ℕ) → p < 64 → at (s .givers) p < 2 ^ 64
   pub takers-are : TakersAre (s .takers) (f .needs)
 
 -- both refuse by the same question, or the state holds the file
@@ -95,7 +95,7 @@ Same bs (got f) (refused q) = ⊥
 Same bs (got f) (got s) = Held bs f s
 
 -- the answer is the rules' reading: the same number, and what a readable file says
-pub record Reads (bs : List ℕ) (r : code.JobFile) : Type 0 where
+pub record Reads (bs : List ℕ) (r : Counts) (offsets givers takers : List ℕ) : Type 0 where
   pub number-is : r .number ≡ numberOf (readFile bs)
   pub held : (f : JobFile) → readFile bs ≡ got f
-      → Held bs f (record { fields = f .fields; limit = r .limit; jobs = r .jobs; offsets = r .offsets; givers = r .givers; takers = r .takers })
+      → Held bs f (record { fields = f .fields; limit = r .limit; jobs = r .jobs; offsets = offsets; givers = givers; takers = takers })

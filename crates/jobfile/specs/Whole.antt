@@ -19,40 +19,39 @@ use Rattle.jobfile.specs.Reading.{stateOf, answerOf, completeNumber, Hel
 use Rattle.jobfile.specs.NeedWays.{answer-refused, answer-got}
 use Rattle.jobfile.specs.Holding.{recounted}
 use Rattle.jobfile.specs.FieldByField.{allFields}
-use Rattle.jobfile.specs.declared.JobFile as code
 
 -- a reading that was refused
-reads-refused : (bs : List ℕ) (q : ℕ) (r : code.JobFile) → readFile bs ≡ refused q → r .number ≡ q → Reads bs r
+reads-refused : (bs : List ℕ) (q : ℕ) (r : Counts) (o g t : List ℕ) → readFile bs ≡ refused q → r .number ≡ q → Reads bs r o g t
 unfolding numberOf
-reads-refused bs q r e n = record { number-is = n ∙ sym (ap numberOf e); held = λ f h. absurd (let z : _≡_ {A = ℕ} 0 1 = cc in omega arith) }
+reads-refused bs q r o g t e n = record { number-is = n ∙ sym (ap numberOf e); held = λ f h. absurd (let z : _≡_ {A = ℕ} 0 1 = cc in omega arith) }
 
 -- a file that is too long
-pub too-long : (bs : List ℕ) (r : code.JobFile) → 16384 < length bs → r .number ≡ 2 → Reads bs r
+pub too-long : (bs : List ℕ) (r : Counts) (o g t : List ℕ) → 16384 < length bs → r .number ≡ 2 → Reads bs r o g t
 unfolding readFile
-too-long bs r h n = reads-refused bs 2 r (ask-no (leb (length bs) 16384) 2 (after (allFields bs) complete) (λ t. let w = simp tests at t in omega arith)) n
+too-long bs r o g t h n = reads-refused bs 2 r o g t (ask-no (leb (length bs) 16384) 2 (after (allFields bs) complete) (λ z. let w = simp tests at z in omega arith)) n
 
 module _ (bs : List ℕ) (fits : length bs ≤ 16384) (c : Counts) (o g t : List ℕ) (q : ℕ) (number-is : q ≡ completeNumber c) where
   read-is : (x : Answer JobFile) → allFields bs ≡ x → readFile bs ≡ after x complete
   unfolding readFile
   read-is x e = ask-yes (leb (length bs) 16384) 2 (after (allFields bs) complete) (simp tests fits) ∙ ap (λ (y : Answer JobFile). after y complete) e
 
-  result : code.JobFile
-  result = record { number = q; limit = c .limit; jobs = c .jobs; offsets = o; givers = g; takers = t }
+  result : Counts
+  result = record { number = q; fields = c .fields; limit = c .limit; jobs = c .jobs }
 
   module _ (well : c .number ≡ 0) (f : JobFile) (all : allFields bs ≡ got f) (held : Held bs f (stateOf c o g t)) where
     completed : readFile bs ≡ ask (leb 2 (f .fields) && leb 1 (length (f .jobs))) 10 (got f)
     unfolding after complete
     completed = read-is (got f) all
 
-    incomplete : (c .fields < 2) ⊎ (c .jobs < 1) → completeNumber c ≡ 10 → Reads bs result
+    incomplete : (c .fields < 2) ⊎ (c .jobs < 1) → completeNumber c ≡ 10 → Reads bs result o g t
     unfolding result
-    incomplete h n = reads-refused bs 10 result (completed ∙ ask-no (leb 2 (f .fields) && leb 1 (length (f .jobs))) 10 (got f) (λ t. no h (simp tests at t))) (number-is ∙ n)
+    incomplete h n = reads-refused bs 10 result o g t (completed ∙ ask-no (leb 2 (f .fields) && leb 1 (length (f .jobs))) 10 (got f) (λ z. no h (simp tests at z))) (number-is ∙ n)
       where
         no : (c .fields < 2) ⊎ (c .jobs < 1) → (2 ≤ f .fields) × (1 ≤ length (f .jobs)) → ⊥
         no (inl l) w = omega (arith, held .fields-is)
         no (inr l) w = omega (arith, held .jobs-is)
 
-    readable : 2 ≤ c .fields → 1 ≤ c .jobs → completeNumber c ≡ 0 → Reads bs result
+    readable : 2 ≤ c .fields → 1 ≤ c .jobs → completeNumber c ≡ 0 → Reads bs result o g t
     unfolding result numberOf
     readable h l n = record { number-is = number-is ∙ n ∙ sym (ap numberOf read); held = λ f′ e. let p : f ≡ f′ = cc (sym read ∙ e) in rw (← p) keep }
       where
@@ -63,20 +62,20 @@ module _ (bs : List ℕ) (fits : length bs ≤ 16384) (c : Counts) (o g t : List
         keep = recounted bs f (stateOf c o g t) held (f .fields) (f .fields) (c .limit) (f .limit) refl (held .limit-is)
 
   -- a file of which all fields were asked
-  pub all-asked : Same bs (allFields bs) (answerOf c o g t) → Reads bs (record { number = q; limit = c .limit; jobs = c .jobs; offsets = o; givers = g; takers = t })
+  pub all-asked : Same bs (allFields bs) (answerOf c o g t) → Reads bs (record { number = q; fields = c .fields; limit = c .limit; jobs = c .jobs }) o g t
   unfolding Same after completeNumber choose result
   all-asked same = go (ℕ-discrete (c .number) 0)
     where
-      yes-got : c .number ≡ 0 → (x : Answer JobFile) → allFields bs ≡ x → Same bs x (got (stateOf c o g t)) → Dec (c .fields < 2) → Dec (c .jobs < 1) → Reads bs result
+      yes-got : c .number ≡ 0 → (x : Answer JobFile) → allFields bs ≡ x → Same bs x (got (stateOf c o g t)) → Dec (c .fields < 2) → Dec (c .jobs < 1) → Reads bs result o g t
       yes-got n (refused p) e s d j = absurd s
       yes-got n (got f) e s (yes l) j = incomplete n f e s (inl l) (simp (eq-eqb (c .number) 0 n, lt-ltb (c .fields) 2 l))
       yes-got n (got f) e s (no l) (yes j) = incomplete n f e s (inr j) (simp (eq-eqb (c .number) 0 n, le-ltb (c .fields) 2 (omega arith), lt-ltb (c .jobs) 1 j))
       yes-got n (got f) e s (no l) (no j) = readable n f e s (omega arith) (omega arith) (simp (eq-eqb (c .number) 0 n, le-ltb (c .fields) 2 (omega arith), le-ltb (c .jobs) 1 (omega arith)))
 
-      not-got : (c .number ≡ 0 → ⊥) → (x : Answer JobFile) → allFields bs ≡ x → Same bs x (refused (c .number)) → Reads bs result
-      not-got n (refused p) e s = reads-refused bs p result (read-is (refused p) e) (number-is ∙ simp (ne-eqb (c .number) 0 n) (sym s))
+      not-got : (c .number ≡ 0 → ⊥) → (x : Answer JobFile) → allFields bs ≡ x → Same bs x (refused (c .number)) → Reads bs result o g t
+      not-got n (refused p) e s = reads-refused bs p result o g t (read-is (refused p) e) (number-is ∙ simp (ne-eqb (c .number) 0 n) (sym s))
       not-got n (got f) e s = absurd s
 
-      go : Dec (c .number ≡ 0) → Reads bs result
+      go : Dec (c .number ≡ 0) → Reads bs result o g t
       go (yes n) = yes-got n (allFields bs) refl (rw (answer-got c o g t n) at same) (decLt (c .fields) 2) (decLt (c .jobs) 1)
       go (no n) = not-got n (allFields bs) refl (rw (answer-refused c (c .number) o g t refl n) at same)

@@ -1,16 +1,18 @@
 // The job file, read field by field: questions 2 to 10 of document 01.
 //
-// Jobs are counted from 0 here. In sets, and in the arrays of sets, job i stands at place 63 - i (crate jobset).
+// Jobs are counted from 0 here. In sets, and in the tables of sets, job i stands at place 63 - i (crate jobset).
+// All tables of a file are one array: the givers of each job, then the takers, then sets that the reader does not touch.
 use fields::wide;
 use jobset::Set;
 ghost use mathlib.Core.Path.{_≡_};
 ghost use mathlib.Core.List.{List};
 ghost use Prim.Native.Nat.{ℕ, _<_, _≤_};
-ghost use lib.ListN.{length, drop};
+ghost use lib.ListN.{length, drop, replicate};
 ghost use lib.Dec.{T};
 ghost use Rattle.rules.specs.Basics.{at, all};
 ghost use Rattle.rules.specs.JobFile.{nameByte, inPlace, lengthOk, contentOk, isJob};
 ghost use Rattle.rules.specs.JobFile.{noFields};
+ghost use Rattle.jobset.specs.Arrays.{giversIn, takersIn};
 ghost use Rattle.jobfile.specs.Reading.{fieldAt, refusalOf, stateOf, answerOf, takeNeed, takeField, completeNumber, Held, Same, Reads};
 ghost use Rattle.jobfile.specs.FieldByField.{allFields};
 
@@ -56,23 +58,12 @@ pub enum FieldAnswer {
     Refused(u8),
 }
 
-// How much has been read, with number 0; or the number of the question that said no.
+// How much has been read (so many fields, the limit, so many jobs), with number 0; or the number of the question that said no.
 pub struct Counts {
     pub number: u8,
     pub fields: usize,
     pub limit: usize,
     pub jobs: usize,
-}
-
-// What a readable file says, with number 0; or the number of the question that said no.
-// offsets: where the field of each job starts, by job. givers and takers: the sets of each job, by place.
-pub struct JobFile {
-    pub number: u8,
-    pub limit: usize,
-    pub jobs: usize,
-    pub offsets: [u16; 64],
-    pub givers: [u64; 64],
-    pub takers: [u64; 64],
 }
 
 // Question 5.
@@ -204,10 +195,10 @@ fn refused(number: u8) -> Counts
     }
 }
 
-// A need: questions 8 and 9, and its place in both arrays of sets.
-fn take_need(c: Counts, v: &[u8], givers: &mut [u64; 64], takers: &mut [u64; 64]) -> Counts
+// A need: questions 8 and 9. It goes into the table of givers and into that of takers.
+fn take_need(c: Counts, v: &[u8], tables: &mut [u64; 260]) -> Counts
     requires { ⌜ (c .number ≡ 0) × (c .fields < 65536) × (c .jobs ≤ 64) × (2 ≤ length (now v)) ⌝ }
-    ensures { λ r. ⌜ ((o : List ℕ) → answerOf r o (now (givers .exit)) (now (takers .exit)) ≡ takeNeed (stateOf c o (now (givers .entry)) (now (takers .entry))) (at (now (v .entry)) 0) (at (now (v .entry)) 1)) ⌝ }
+    ensures { λ r. ⌜ ((o : List ℕ) → answerOf r o (giversIn (now (tables .exit))) (takersIn (now (tables .exit))) ≡ takeNeed (stateOf c o (giversIn (now (tables .entry))) (takersIn (now (tables .entry)))) (at (now (v .entry)) 0) (at (now (v .entry)) 1)) × (length (now (tables .exit)) ≡ length (now (tables .entry))) ⌝ }
 {
     let jobs = c.jobs;
     let giver = wide(v[0]);
@@ -223,15 +214,17 @@ fn take_need(c: Counts, v: &[u8], givers: &mut [u64; 64], takers: &mut [u64; 64]
     }
     let g = 63 - (giver - 1);
     let k = 63 - (taker - 1);
-    let before = Set { bits: givers[k] };
+    let before = Set { bits: tables[k] };
     if before.has(g) {
         return refused(9);
     }
     let after = before.with(g);
-    givers[k] = after.bits;
-    let others = Set { bits: takers[g] };
+    tables[k] = after.bits;
+    let others = Set {
+        bits: tables[64 + g],
+    };
     let more = others.with(k);
-    takers[g] = more.bits;
+    tables[64 + g] = more.bits;
     Counts {
         number: 0,
         fields: c.fields + 1,
@@ -247,11 +240,10 @@ fn take_field(
     at: usize,
     v: &[u8],
     offsets: &mut [u16; 64],
-    givers: &mut [u64; 64],
-    takers: &mut [u64; 64],
+    tables: &mut [u64; 260],
 ) -> Counts
     requires { ⌜ (c .number ≡ 0) × (c .fields < 65536) × (c .jobs ≤ 64) × (at < 65536) × T (lengthOk tag (length (now v))) ⌝ }
-    ensures { λ r. ⌜ answerOf r (now (offsets .exit)) (now (givers .exit)) (now (takers .exit)) ≡ takeField (stateOf c (now (offsets .entry)) (now (givers .entry)) (now (takers .entry))) tag at (now (v .entry)) ⌝ }
+    ensures { λ r. ⌜ (answerOf r (now (offsets .exit)) (giversIn (now (tables .exit))) (takersIn (now (tables .exit))) ≡ takeField (stateOf c (now (offsets .entry)) (giversIn (now (tables .entry))) (takersIn (now (tables .entry)))) tag at (now (v .entry))) × (length (now (tables .exit)) ≡ length (now (tables .entry))) ⌝ }
 {
     if !content_ok(tag, v) {
         return refused(6);
@@ -278,7 +270,7 @@ fn take_field(
         };
     }
     if tag == 4 {
-        return take_need(c, v, givers, takers);
+        return take_need(c, v, tables);
     }
     Counts {
         number: 0,
@@ -289,14 +281,9 @@ fn take_field(
 }
 
 // All fields, one after the other: questions 3 to 9.
-fn read_fields(
-    file: &[u8],
-    offsets: &mut [u16; 64],
-    givers: &mut [u64; 64],
-    takers: &mut [u64; 64],
-) -> Counts
-    requires { ⌜ (length (now file) ≤ 16384) × Held (now file) noFields (record { fields = 0; limit = 0; jobs = 0; offsets = now offsets; givers = now givers; takers = now takers }) ⌝ }
-    ensures { λ r. ⌜ Same (now (file .entry)) (allFields (now (file .entry))) (answerOf r (now (offsets .exit)) (now (givers .exit)) (now (takers .exit))) ⌝ }
+fn read_fields(file: &[u8], offsets: &mut [u16; 64], tables: &mut [u64; 260]) -> Counts
+    requires { ⌜ (length (now file) ≤ 16384) × Held (now file) noFields (record { fields = 0; limit = 0; jobs = 0; offsets = now offsets; givers = giversIn (now tables); takers = takersIn (now tables) }) ⌝ }
+    ensures { λ r. ⌜ Same (now (file .entry)) (allFields (now (file .entry))) (answerOf r (now (offsets .exit)) (giversIn (now (tables .exit))) (takersIn (now (tables .exit)))) × (length (now (tables .exit)) ≡ length (now (tables .entry))) ⌝ }
 {
     let mut c = Counts {
         number: 0,
@@ -310,7 +297,7 @@ fn read_fields(
         let FieldAnswer::Field { tag, start, end } = f else {
             return refused(refusal_of(f));
         };
-        let next = take_field(c, tag, at, &file[start..end], offsets, givers, takers);
+        let next = take_field(c, tag, at, &file[start..end], offsets, tables);
         if next.number != 0 {
             return next;
         }
@@ -337,31 +324,19 @@ fn complete(c: Counts) -> u8
     0
 }
 
-// The job file: questions 2 to 10.
-pub fn read_file(file: &[u8]) -> JobFile
-    ensures { λ r. ⌜ Reads (now (file .entry)) r ⌝ }
+// The job file: questions 2 to 10. The offsets get where the field of each job starts, the tables its givers and its takers.
+pub fn read_file(file: &[u8], offsets: &mut [u16; 64], tables: &mut [u64; 260]) -> Counts
+    requires { ⌜ (length (now offsets) ≡ 64) × (now tables ≡ replicate 260 0) ⌝ }
+    ensures { λ r. ⌜ Reads (now (file .entry)) r (now (offsets .exit)) (giversIn (now (tables .exit))) (takersIn (now (tables .exit))) × (length (now (tables .exit)) ≡ 260) ⌝ }
 {
-    let mut offsets = [0; 64];
-    let mut givers = [0; 64];
-    let mut takers = [0; 64];
     if 16384 < file.len() {
-        return JobFile {
-            number: 2,
-            limit: 0,
-            jobs: 0,
-            offsets,
-            givers,
-            takers,
-        };
+        return refused(2);
     }
-    let c = read_fields(file, &mut offsets, &mut givers, &mut takers);
-    let number = complete(c);
-    JobFile {
-        number,
+    let c = read_fields(file, offsets, tables);
+    Counts {
+        number: complete(c),
+        fields: c.fields,
         limit: c.limit,
         jobs: c.jobs,
-        offsets,
-        givers,
-        takers,
     }
 }

@@ -7,7 +7,6 @@ use mathlib.Core.Option.{Option, none, some}
 use Prim.Native.Nat.{ℕ, zero, suc, _+_, _≤_, _<_}
 use native.Mathlib.Omega.{arith}
 use native.Mathlib.Decide.{decLt}
-use borrow.Author.Tests.{eq-eqb, eqb-true}
 use Rattle.rules.specs.Basics.{choose, at}
 use Rattle.rules.specs.Needs.{Gives}
 use Rattle.rules.specs.Program.{Fits, Kept}
@@ -22,7 +21,7 @@ use Rattle.dominance.specs.States.{State, Good, placed-best, all-placed, start,
 use Rattle.dominance.specs.Placing.{place, Spot, now, earlier, waits, spot}
 use Rattle.dominance.specs.Maximal.{maximal-slot}
 use Rattle.dominance.specs.Windows.{in-window, windowed-best}
-use Rattle.optimal.specs.Jobs.{Is, present, is-iff, is-empty, is-union, is-ext, subset-is, jobs, setOf, set-of-is, set-of-jobs}
+use Rattle.optimal.specs.Jobs.{Is, present, is-iff, is-empty, is-union, subset-is, jobs, setOf, set-of-is, set-of-jobs}
 use Rattle.optimal.specs.Given.{Given, within, At}
 use Rattle.optimal.specs.Slot.{c}
 use Rattle.optimal.specs.Tried.{triedBelow, tried-in, slot-is, tries-maximal}
@@ -146,16 +145,10 @@ module _ (G : Given) (C : ℕ) (h : C ≤ G .limit) where
 
     -- the test for the end
     all-done : (isDone (G .T) (x .done) ≡ true) ↔ ((i : ℕ) → i < G .n → at (x .t) i < x .s)
-    unfolding isDone
-    all-done = (
-      λ e i l.
-          let q : setAt (G .T .followed) 0 ≡ x .done = ap (λ (b : ℕ). record { bits = b }) (sym (eqb-true (x .done .bits) (at (G .T .followed) 0) e)) in
-          x .done-is .to i l (rw q at (everyone .from i l tt)),
-      λ f. eq-eqb (x .done .bits) (at (G .T .followed) 0) (ap (λ (S : Set). S .bits) (is-ext (is-iff (λ i l. (λ p. tt, λ p. f i l)) (x .done-is)) everyone)),
-    )
-      where
-        everyone : Is (G .n) (setAt (G .T .followed) 0) (λ i. Unit {0})
-        everyone = is-iff (λ i l. (λ p. tt, λ p. omega arith)) (G .followed-is 0 (omega arith))
+    unfolding isDone dueAt
+    all-done =
+        let w = subset-is (G .followed-is 0 (omega arith)) (x .done-is) in
+        (λ e i l. w .0 e i l (omega arith), λ f. w .1 (λ i l p. f i l))
 
     done-best : isDone (G .T) (x .done) ≡ true → Best (G .n) Family (some (x .t))
     done-best e = placed-best (within G C h) (x .s) (x .t) (omega (arith, x .sum)) (x .state) (all-done .0 e)

@@ -34,7 +34,7 @@ pub record Given : Type 0 where
   pub needs-in : NeedsIn n needs
   pub bounds : Bounds n needs ρ θ
   pub givers-are : GiversAre (T .givers) needs
-  pub givers-small : (p : ℕ) → at (T .givers) p < 2 ^ 64
+  pub givers-small : (p : ℕ) → p < 64 → at (T .givers) p < 2 ^ 64
   pub takers-are : TakersAre (T .takers) needs
   pub released-is : (s : ℕ) → s ≤ 65 → Is n (setAt (T .released) s) (λ i. ρ i < s)
   pub followed-is : (k : ℕ) → k ≤ 65 → Is n (setAt (T .followed) k) (λ i. k ≤ θ i)
@@ -55,7 +55,7 @@ module _ (G : Given) where
     to = λ g l m. gives g (omega (arith, G .n-le)) m;
     from = λ g l a. G .givers-are k g (omega (arith, G .n-le)) (omega (arith, G .n-le)) ∙ T-true (givesb (G .needs) g k) .0 (gives-is (G .needs) g k .1 a);
     bound = λ p m.
-        let l = below-64 (setAt (G .T .givers) (63 - k)) p (G .givers-small (63 - k)) m in
+        let l = below-64 (setAt (G .T .givers) (63 - k)) p (G .givers-small (63 - k) (omega arith)) m in
         let e : 63 - (63 - p) ≡ p = omega arith in
         (l, G .needs-in (63 - p) k (gives (63 - p) (omega arith) (ap (member (setAt (G .T .givers) (63 - k))) e ∙ m)) .0);
   }

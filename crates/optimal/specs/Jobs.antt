@@ -85,7 +85,7 @@ pub subset-of : {n : ℕ} {S R : Set} {P Q : ℕ → Type 0} → Is n S P → Is
 unfolding Subset
 subset-of a b f p m = let w = a .bound p m in place-of b p (w .0) (w .1) (f (63 - p) (w .1) (at-place a p m))
 
-pub is-ext : {n : ℕ} {S R : Set} {P : ℕ → Type 0} → Is n S P → Is n R P → S ≡ R
+is-ext : {n : ℕ} {S R : Set} {P : ℕ → Type 0} → Is n S P → Is n R P → S ≡ R
 is-ext {S = S} {R = R} a b = subset-antisym S R (subset-of a b (λ i h p. p)) (subset-of b a (λ i h p. p))
 
 pub subset-is : {n : ℕ} {S R : Set} {P Q : ℕ → Type 0} → Is n S P → Is n R Q → (isSubset S R ≡ true) ↔ ((i : ℕ) → i < n → P i → Q i)

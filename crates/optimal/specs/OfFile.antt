@@ -70,7 +70,7 @@ module _ (n : ℕ) (needs : List Need) (limit : ℕ) (n-le : n ≤ 64) (limit-le
   }
 
   -- the search, from the least makespan that the windows leave, gives the best start list of the file
-  pub file-is-best : (givers takers : List ℕ) → GiversAre givers needs → ((p : ℕ) → at givers p < 2 ^ 64) → TakersAre takers needs → 0 < n → 0 < limit
+  pub file-is-best : (givers takers : List ℕ) → GiversAre givers needs → ((p : ℕ) → p < 64 → at givers p < 2 ^ 64) → TakersAre takers needs → 0 < n → 0 < limit
       → shortest (fileTables n needs givers takers) (limit + 1 - fileWindows n needs .least) (fileWindows n needs .least) ≡ answerOf (best n (keptb needs) limit)
   file-is-best givers takers givers-are givers-small takers-are n-pos limit-pos =
       search-is-best given limit-pos (fileWindows n needs .least) (omega (arith, file-least n n-le needs needs-in free (fileWindows n needs .least) .0 (omega arith) 0 n-pos)) least-slots

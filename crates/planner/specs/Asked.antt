@@ -2,7 +2,7 @@
 use mathlib.Core.Path.{_≡_, sym, ap, ap₂, _∙_}
 use mathlib.Core.Bool.{true, false}
 use mathlib.Core.List.{List, _++_, map}
-use Prim.Native.Nat.{ℕ, _≤_, _<_, _^_}
+use Prim.Native.Nat.{ℕ, _≤_, _<_}
 use native.Mathlib.Omega.{arith}
 use lib.ListN.{length, drop, replicate}
 use lib.Seq.{drop-at}
@@ -19,20 +19,19 @@ use Rattle.laws.specs.Numbers.{bytes-all}
 use Rattle.laws.specs.JobFile.{readable}
 use Rattle.laws.specs.Refusals.{read-got}
 use Rattle.laws.specs.Deadlines.{swap-in}
-use Rattle.jobset.specs.Arrays.{GiversAre}
-use Rattle.jobfile.specs.declared.JobFile as reader
+use Rattle.jobset.specs.Arrays.{GiversAre, releasedIn, followedIn}
+use Rattle.jobfile.specs.declared.Counts.{Counts}
 use Rattle.jobfile.specs.Reading.{Reads}
 use Rattle.windows.specs.declared.JobLevels.{JobLevels}
-use Rattle.windows.specs.declared.JobWindows.{JobWindows}
 use Rattle.windows.specs.Levels.{levelsOf}
 use Rattle.windows.specs.Held.{takers-reversed}
 use Rattle.windows.specs.LevelLaws.{levels-ok}
-use Rattle.windows.specs.Windows.{windowsOf, fileWindows, widthIn}
+use Rattle.windows.specs.Windows.{JobWindows, longestOf, windowsOf, fileWindows, widthIn}
 use Rattle.windows.specs.FileWindows.{file-width}
 use Rattle.planner.specs.declared.Planned.the-variants as made
 use Rattle.bitmap.specs.Marks.{cleared as zeroed}
 use Rattle.planner.specs.declared.Planned.{Planned}
-use Rattle.planner.specs.Planner.{outcomeOf, Answers, size, JobsRead, WindowsRead}
+use Rattle.planner.specs.Planner.{outcomeOf, Answers, size, JobsRead, Filled, WindowsRead}
 use Rattle.planner.specs.Searched.{jobs-few, limit-few, file-needs}
 use Rattle.planner.specs.Tabled.{answers-refused}
 
@@ -43,17 +42,17 @@ unfolding numberOf
 number-refused (refused p) q e n = ap refused (sym e)
 number-refused (got a) q e n = absurd (n e)
 
-module _ (bs : List ℕ) (r : reader.JobFile) (reads : Reads bs r) where
+module _ (bs : List ℕ) (r : Counts) (o g t : List ℕ) (reads : Reads bs r o g t) where
   -- the reader refuses
   pub read-refused : (q : ℕ) (table : List ℕ) → r .number ≡ q → (q ≡ 0 → ⊥) → Answers bs (made.Refused q) table table
   unfolding after
   read-refused q table e n = answers-refused bs q table (ap (λ (x : Answer JobFile). after x planTable) (number-refused (readFile bs) q (sym e ∙ reads .number-is) n))
 
   -- or the arrays hold the file
-  pub jobs-read : r .number ≡ 0 → ((i : ℕ) → at bs i < 256) → ((p : ℕ) → at (r .givers) p < 2 ^ 64) → JobsRead bs (r .jobs) (r .limit) (r .offsets) (r .givers) (r .takers)
-  jobs-read z bytes small =
+  pub jobs-read : r .number ≡ 0 → ((i : ℕ) → at bs i < 256) → JobsRead bs (r .jobs) (r .limit) o g t
+  jobs-read z bytes =
       let f = read-got bs (sym (reads .number-is) ∙ z) in
-      record { file = f .0; read = f .1; keeps = readable bs (bytes-all bs bytes) (f .0) (f .1); held = reads .held (f .0) (f .1); givers-small = small }
+      record { file = f .0; read = f .1; keeps = readable bs (bytes-all bs bytes) (f .0) (f .1); held = reads .held (f .0) (f .1) }
 
 -- ---- questions 11 and 12
 
@@ -74,34 +73,45 @@ module _ (bs : List ℕ) (n L : ℕ) (o g t : List ℕ) (j : JobsRead bs n L o g
       free : T (circleFree (size (j .file)) (j .file .needs))
       free = T-true _ .1 (sym circle-test ∙ yes)
 
-      module _ (behind : JobLevels) (behind-is : behind ≡ levelsOf n (map swap (j .file .needs))) (w : JobWindows) (w-is : w ≡ windowsOf (before .level) (behind .level) n) where
+      module _ (behind : JobLevels) (behind-is : behind ≡ levelsOf n (map swap (j .file .needs))) (sets : List ℕ) (filled : Filled n g t (before .level) (behind .level) sets) where
+        w : JobWindows
+        w = windowsOf (before .level) (behind .level) n
+
         file-windows : w ≡ fileWindows (size (j .file)) (j .file .needs)
-        file-windows =
-            w-is ∙ ap₂ (λ (x y : JobLevels). windowsOf (x .level) (y .level) n) is behind-is
-            ∙ ap (λ (k : ℕ). fileWindows k (j .file .needs)) (j .held .jobs-is)
+        unfolding w
+        file-windows = ap₂ (λ (x y : JobLevels). windowsOf (x .level) (y .level) n) is behind-is ∙ ap (λ (k : ℕ). fileWindows k (j .file .needs)) (j .held .jobs-is)
 
-        width-test : widthIn (w .released) (w .followed) L ≡ width (size (j .file)) (j .file .needs) (j .file .limit)
-        width-test =
-            ap (λ (x : JobWindows). widthIn (x .released) (x .followed) L) file-windows
-            ∙ ap (widthIn (fileWindows (size (j .file)) (j .file .needs) .released) (fileWindows (size (j .file)) (j .file .needs) .followed)) (j .held .limit-is)
-            ∙ file-width (size (j .file)) (jobs-few bs n L o g t j) (j .file .needs) (file-needs bs n L o g t j) (T-true _ .0 free) (j .file .limit) (limit-few bs n L o g t j)
+        released-is : releasedIn sets ≡ fileWindows (size (j .file)) (j .file .needs) .released
+        unfolding w windowsOf
+        released-is = filled .released-made ∙ ap (λ (x : JobWindows). x .released) file-windows
 
-        module _ (k : ℕ) (k-is : k ≡ widthIn (w .released) (w .followed) L) where
+        followed-is : followedIn sets ≡ fileWindows (size (j .file)) (j .file .needs) .followed
+        unfolding w windowsOf
+        followed-is = filled .followed-made ∙ ap (λ (x : JobWindows). x .followed) file-windows
+
+        module _ (k : ℕ) (k-is : k ≡ widthIn (releasedIn sets) (followedIn sets) L) where
+          width-is : k ≡ width (size (j .file)) (j .file .needs) (j .file .limit)
+          width-is =
+              k-is ∙ ap₂ (λ (x y : List ℕ). widthIn x y L) released-is followed-is
+              ∙ ap (widthIn (fileWindows (size (j .file)) (j .file .needs) .released) (fileWindows (size (j .file)) (j .file .needs) .followed)) (j .held .limit-is)
+              ∙ file-width (size (j .file)) (jobs-few bs n L o g t j) (j .file .needs) (file-needs bs n L o g t j) (T-true _ .0 free) (j .file .limit) (limit-few bs n L o g t j)
+
           pub refused-12 : (table : List ℕ) → 8 < k → Answers bs (made.Refused 12) table table
           unfolding after planTable
           refused-12 table h =
               answers-refused bs 12 table (ap (λ (x : Answer JobFile). after x planTable) (j .read) ∙ ask-yes (circleFree (size (j .file)) (j .file .needs)) 11 _ free
-              ∙ ask-no (leb (width (size (j .file)) (j .file .needs) (j .file .limit)) 8) 12 _ (λ c. omega (arith, T-leb (width (size (j .file)) (j .file .needs) (j .file .limit)) 8 .0 c, k-is, width-test)))
+              ∙ ask-no (leb (width (size (j .file)) (j .file .needs) (j .file .limit)) 8) 12 _ (λ c. omega (arith, T-leb (width (size (j .file)) (j .file .needs) (j .file .limit)) 8 .0 c, width-is)))
 
           -- no circle and not too wide: what the search is given
-          pub windows-read : k ≤ 8 → WindowsRead bs n L o g t (w .released) (w .followed) (w .least)
-          windows-read h = record {
-            jobs = j;
+          pub windows-read : k ≤ 8 → (least : ℕ) → least ≡ longestOf (before .level) (behind .level) n → WindowsRead bs n L o sets least
+          unfolding w windowsOf
+          windows-read h least e = record {
+            jobs = record { file = j .file; read = j .read; keeps = j .keeps; held = rw (filled .givers-kept, filled .takers-kept) (j .held) };
             free = free;
-            narrow = omega (arith, k-is, width-test);
-            released-is = ap (λ (x : JobWindows). x .released) file-windows;
-            followed-is = ap (λ (x : JobWindows). x .followed) file-windows;
-            least-is = ap (λ (x : JobWindows). x .least) file-windows;
+            narrow = omega (arith, width-is);
+            released-is = released-is;
+            followed-is = followed-is;
+            least-is = e ∙ ap (λ (x : JobWindows). x .least) file-windows;
           }
 
   in-jobs : NeedsIn n (j .file .needs)

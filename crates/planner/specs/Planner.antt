@@ -1,18 +1,18 @@
 -- What the planner gives, and what its parts are given. Assumes nothing.
 use mathlib.Core.Path.{_≡_}
 use mathlib.Core.List.{List}
-use Prim.Native.Nat.{ℕ, _≤_, _<_, _^_}
+use Prim.Native.Nat.{ℕ, _≤_}
 use lib.ListN.{length}
 use lib.Dec.{T}
-use Rattle.rules.specs.Basics.{at}
 use Rattle.rules.specs.Fields.{got, after}
 use Rattle.rules.specs.Needs.{circleFree}
 use Rattle.rules.specs.JobFile.{JobFile, readFile}
 use Rattle.rules.specs.Windows.{width}
 use Rattle.rules.specs.Answers.{planTable, Outcome, cleared, written}
 use Rattle.laws.specs.JobFile.{Readable}
+use Rattle.jobset.specs.Arrays.{giversIn, takersIn, releasedIn, followedIn}
 use Rattle.jobfile.specs.Reading.{Held}
-use Rattle.windows.specs.Windows.{fileWindows}
+use Rattle.windows.specs.Windows.{table, lowerJobs, higherJobs, fileWindows}
 use Rattle.planner.specs.declared.Planned.{Planned}
 use Rattle.planner.specs.declared.Planned.the-variants.{Table, Refused}
 
@@ -31,17 +31,23 @@ pub record JobsRead (bs : List ℕ) (n L : ℕ) (offsets givers takers : List �
   pub read : readFile bs ≡ got file
   pub keeps : Readable file
   pub held : Held bs file (record { fields = file .fields; limit = L; jobs = n; offsets = offsets; givers = givers; takers = takers })
-  pub givers-small : (p : ℕ) → at givers p < 2 ^ 64
+
+-- the tables hold the needs as before, and the windows that releases and tails by place make
+pub record Filled (n : ℕ) (givers takers release tail tables : List ℕ) : Type 0 where
+  pub givers-kept : giversIn tables ≡ givers
+  pub takers-kept : takersIn tables ≡ takers
+  pub released-made : releasedIn tables ≡ table (lowerJobs release n)
+  pub followed-made : followedIn tables ≡ table (higherJobs tail n)
 
 -- the number of its jobs
 abbrev pub size : JobFile → ℕ
 size f = length (f .jobs)
 
--- and it has no circle and is not too wide; the tables are its windows
-pub record WindowsRead (bs : List ℕ) (n L : ℕ) (offsets givers takers released followed : List ℕ) (least : ℕ) : Type 0 where
-  pub jobs : JobsRead bs n L offsets givers takers
+-- and it has no circle and is not too wide; the tables are its needs and its windows
+pub record WindowsRead (bs : List ℕ) (n L : ℕ) (offsets tables : List ℕ) (least : ℕ) : Type 0 where
+  pub jobs : JobsRead bs n L offsets (giversIn tables) (takersIn tables)
   pub free : T (circleFree (size (jobs .file)) (jobs .file .needs))
   pub narrow : width (size (jobs .file)) (jobs .file .needs) (jobs .file .limit) ≤ 8
-  pub released-is : released ≡ fileWindows (size (jobs .file)) (jobs .file .needs) .released
-  pub followed-is : followed ≡ fileWindows (size (jobs .file)) (jobs .file .needs) .followed
+  pub released-is : releasedIn tables ≡ fileWindows (size (jobs .file)) (jobs .file .needs) .released
+  pub followed-is : followedIn tables ≡ fileWindows (size (jobs .file)) (jobs .file .needs) .followed
   pub least-is : least ≡ fileWindows (size (jobs .file)) (jobs .file .needs) .least

@@ -5,7 +5,6 @@ use mathlib.Core.Option.{Option, none, some}
 use Prim.Native.Nat.{ℕ, _+_, _-_, _≤_, _<_}
 use native.Mathlib.Omega.{arith}
 use lib.ListN.{length, drop, length-drop}
-use lib.Dec.{T}
 use Rattle.rules.specs.Basics.{at, tabulate}
 use Rattle.rules.specs.Numbers.{centimetres}
 use Rattle.rules.specs.Fields.{Answer, refused, got, after, value}
@@ -22,6 +21,7 @@ use Rattle.laws.specs.Program.{program-is, slots-pos}
 use Rattle.laws.specs.Best.{Shortest, best-found}
 use Rattle.laws.specs.Planned.{asked-13, few-boards}
 use Rattle.laws.specs.Places.{by-place-at, byPlace}
+use Rattle.jobset.specs.Arrays.{giversIn, takersIn, givers-front}
 use Rattle.search.specs.declared.Found.{Found}
 use Rattle.boards.specs.declared.Placed.{Placed}
 use Rattle.boards.specs.Placing.{Startable, placed}
@@ -58,15 +58,18 @@ module _ (bs : List ℕ) (n L : ℕ) (o g t : List ℕ) (j : JobsRead bs n L o g
 
 -- ---- what was found
 
-module _ (bs : List ℕ) (n L : ℕ) (o g t rel fol : List ℕ) (least : ℕ) (w : WindowsRead bs n L o g t rel fol least) where
-  f : JobFile
-  f = w .jobs .file
+module _ (bs : List ℕ) (n L : ℕ) (o sets : List ℕ) (least : ℕ) (w : WindowsRead bs n L o sets least) where
+  abbrev g : List ℕ
+  g = giversIn sets
+
+  abbrev t : List ℕ
+  t = takersIn sets
 
   search-13 : (x : Option (List ℕ)) → best (size (w .jobs .file)) (keptb (w .jobs .file .needs)) (w .jobs .file .limit) ≡ x → after (readFile bs) planTable ≡ tabled (w .jobs .file) x
   unfolding after
   search-13 x e =
       ap (λ (r : Answer JobFile). after r planTable) (w .jobs .read)
-      ∙ asked-13 (w .jobs .file) (w .jobs .keeps) (no-circle bs n L o g t rel fol least w) (w .narrow) ∙ ap (tabled (w .jobs .file)) e
+      ∙ asked-13 (w .jobs .file) (w .jobs .keeps) (no-circle bs n L o sets least w) (w .narrow) ∙ ap (tabled (w .jobs .file)) e
 
   module _ (found : Found) (is : found ≡ answerOf (best (size (w .jobs .file)) (keptb (w .jobs .file .needs)) (w .jobs .file .limit))) where
     -- nothing was found: 13
@@ -119,46 +122,46 @@ module _ (bs : List ℕ) (n L : ℕ) (o g t rel fol : List ℕ) (least : ℕ) (w
       }
 
       -- and what it gives
-      pub placed-is : placed g (found .starts) n (found .slots) ≡ rulesPlaced (size (w .jobs .file)) (w .jobs .file .needs) (c .list)
-      placed-is = rw (c .slots-is, w .jobs .held .jobs-is) (place-is (size (w .jobs .file)) (w .jobs .file .needs) (c .list) g (found .starts) (record {
+      pub placed-is : placed sets (found .starts) n (found .slots) ≡ rulesPlaced (size (w .jobs .file)) (w .jobs .file .needs) (c .list)
+      placed-is = rw (c .slots-is, w .jobs .held .jobs-is) (place-is (size (w .jobs .file)) (w .jobs .file .needs) (c .list) sets (found .starts) (record {
         few = jobs-few bs n L o g t (w .jobs);
         needs-in = file-needs bs n L o g t (w .jobs);
-        givers-are = w .jobs .held .givers-are;
+        givers-are = givers-front sets (w .jobs .file .needs) (w .jobs .held .givers-are);
         len = kept .1 .len;
         kept = kept .0;
         slots-few = omega (arith, c .short .fits, limit-few bs n L o g t (w .jobs));
         starts-are = start-at;
       }))
 
-      pub count-few : placed g (found .starts) n (found .slots) .count ≤ 8
+      pub count-few : placed sets (found .starts) n (found .slots) .count ≤ 8
       unfolding rulesPlaced
-      count-few = rw placed-is (few-boards (w .jobs .file) (w .jobs .keeps) (no-circle bs n L o g t rel fol least w) (w .narrow) (c .list) (c .short))
+      count-few = rw placed-is (few-boards (w .jobs .file) (w .jobs .keeps) (no-circle bs n L o sets least w) (w .narrow) (c .list) (c .short))
 
       -- the table that is written is that of the rules
-      table-is : tableWith bs o (found .starts) (placed g (found .starts) n (found .slots) .boards) n (found .slots) (placed g (found .starts) n (found .slots) .count) ≡ tableOf (w .jobs .file) (c .list)
+      table-is : tableWith bs o (found .starts) (placed sets (found .starts) n (found .slots) .boards) n (found .slots) (placed sets (found .starts) n (found .slots) .count) ≡ tableOf (w .jobs .file) (c .list)
       unfolding tableOf tableWith rulesPlaced rowWith
       table-is = λ i. record { slots = c .slots-is i; boards = placed-is i .count; rows = rows-are i }
         where
           b : List ℕ
           b = boards (size (w .jobs .file)) (w .jobs .file .needs) (c .list)
 
-          board-at : (i : ℕ) → i < size (w .jobs .file) → at (placed g (found .starts) n (found .slots) .boards) (63 - i) ≡ at b i
+          board-at : (i : ℕ) → i < size (w .jobs .file) → at (placed sets (found .starts) n (found .slots) .boards) (63 - i) ≡ at b i
           board-at i h = ap (λ (p : Placed). at (p .boards) (63 - i)) placed-is ∙ by-place-at b i (omega (arith, jobs-few bs n L o g t (w .jobs)))
 
-          rows-are : tabulate (λ i. rowWith (at (found .starts) (63 - i)) (at (placed g (found .starts) n (found .slots) .boards) (63 - i)) (value bs (at o i))) n 0
+          rows-are : tabulate (λ i. rowWith (at (found .starts) (63 - i)) (at (placed sets (found .starts) n (found .slots) .boards) (63 - i)) (value bs (at o i))) n 0
               ≡ tabulate (λ i. record { start = at (c .list) i; board = at b i; level = centimetres (nthJob (w .jobs .file .jobs) i .level); name = nthJob (w .jobs .file .jobs) i .name }) (size (w .jobs .file)) 0
           rows-are =
-              ap (λ (k : ℕ). tabulate (λ i. rowWith (at (found .starts) (63 - i)) (at (placed g (found .starts) n (found .slots) .boards) (63 - i)) (value bs (at o i))) k 0) (w .jobs .held .jobs-is)
+              ap (λ (k : ℕ). tabulate (λ i. rowWith (at (found .starts) (63 - i)) (at (placed sets (found .starts) n (found .slots) .boards) (63 - i)) (value bs (at o i))) k 0) (w .jobs .held .jobs-is)
               ∙ tabulate-same _ _ (size (w .jobs .file)) 0 (λ i _ h. row-is i (omega arith))
             where
               row-is : (i : ℕ) → i < size (w .jobs .file)
-                  → rowWith (at (found .starts) (63 - i)) (at (placed g (found .starts) n (found .slots) .boards) (63 - i)) (value bs (at o i))
+                  → rowWith (at (found .starts) (63 - i)) (at (placed sets (found .starts) n (found .slots) .boards) (63 - i)) (value bs (at o i))
                   ≡ record { start = at (c .list) i; board = at b i; level = centimetres (nthJob (w .jobs .file .jobs) i .level); name = nthJob (w .jobs .file .jobs) i .name }
               row-is i h = let e = w .jobs .held .offsets-are i (omega (arith, w .jobs .held .jobs-is)) in
                   λ k. record { start = start-at i h k; board = board-at i h k; level = centimetres (e k .level); name = e k .name }
 
       -- the answer with the table that is written
-      pub table-written : (placing : Placed) → placing ≡ placed g (found .starts) n (found .slots) → (k : ℕ) (table table′ : List ℕ)
+      pub table-written : (placing : Placed) → placing ≡ placed sets (found .starts) n (found .slots) → (k : ℕ) (table table′ : List ℕ)
           → k ≡ length (encode (tableWith bs o (found .starts) (placing .boards) n (found .slots) (placing .count)))
           → table′ ≡ encode (tableWith bs o (found .starts) (placing .boards) n (found .slots) (placing .count)) ++ drop k table → Answers bs (made.Table k) table table′
       unfolding tabled

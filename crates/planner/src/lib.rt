@@ -5,7 +5,7 @@ ghost use mathlib.Core.Path.{_≡_};
 ghost use Prim.Native.Nat.{_≤_};
 ghost use lib.ListN.{length};
 ghost use Rattle.rules.specs.Answers.{plan};
-ghost use Rattle.planner.specs.Planner.{outcomeOf, Answers, JobsRead, WindowsRead};
+ghost use Rattle.planner.specs.Planner.{outcomeOf, Answers, WindowsRead};
 
 // A table of so many bytes, or the number of the question that said no.
 pub enum Planned {
@@ -17,26 +17,23 @@ pub enum Planned {
 fn plan_windows(
     file: &[u8],
     offsets: &[u16; 64],
-    givers: &[u64; 64],
-    takers: &[u64; 64],
-    released: &[u64; 66],
-    followed: &[u64; 66],
+    tables: &[u64; 260],
     jobs: usize,
     limit: usize,
     least: usize,
     work: &mut [u8],
     table: &mut [u8],
 ) -> Planned
-    requires { ⌜ (52488 ≤ length (now work)) × (1222 ≤ length (now table)) × WindowsRead (now file) jobs limit (now offsets) (now givers) (now takers) (now released) (now followed) least ⌝ }
+    requires { ⌜ (52488 ≤ length (now work)) × (1222 ≤ length (now table)) × WindowsRead (now file) jobs limit (now offsets) (now tables) least ⌝ }
     ensures { λ r. ⌜ Answers (now (file .entry)) r (now (table .entry)) (now (table .exit)) ⌝ }
 {
-    let found = search::search(givers, takers, released, followed, least, limit, work);
+    let found = search::search(tables, least, limit, work);
     let slots = found.slots;
     if slots == 0 {
         return Planned::Refused(13);
     }
     let starts = found.starts;
-    let placed = boards::place(givers, &starts, jobs, slots);
+    let placed = boards::place(tables, &starts, jobs, slots);
     let on = placed.boards;
     let size = writer::write_table(
         file,
@@ -51,71 +48,33 @@ fn plan_windows(
     Planned::Table(size)
 }
 
-// Questions 11 and 12, of a readable file; then the rest.
-fn plan_jobs(
-    file: &[u8],
-    offsets: &[u16; 64],
-    givers: &[u64; 64],
-    takers: &[u64; 64],
-    jobs: usize,
-    limit: usize,
-    work: &mut [u8],
-    table: &mut [u8],
-) -> Planned
-    requires { ⌜ (52488 ≤ length (now work)) × (1222 ≤ length (now table)) × JobsRead (now file) jobs limit (now offsets) (now givers) (now takers) ⌝ }
-    ensures { λ r. ⌜ Answers (now (file .entry)) r (now (table .entry)) (now (table .exit)) ⌝ }
-{
-    let before = windows::levels(givers, jobs);
-    if !before.ok {
-        return Planned::Refused(11);
-    }
-    let behind = windows::levels(takers, jobs);
-    let release = before.level;
-    let tail = behind.level;
-    let w = windows::windows(&release, &tail, jobs);
-    let released = w.released;
-    let followed = w.followed;
-    if 8 < windows::width(&released, &followed, limit) {
-        return Planned::Refused(12);
-    }
-    plan_windows(
-        file,
-        offsets,
-        givers,
-        takers,
-        &released,
-        &followed,
-        jobs,
-        limit,
-        w.least,
-        work,
-        table,
-    )
-}
-
-// Questions 2 to 13, with full buffers.
+// Questions 2 to 12, with full buffers; then the rest. The tables of the file are parts of one array (crate explore says which).
 fn plan_file(file: &[u8], work: &mut [u8], table: &mut [u8]) -> Planned
     requires { ⌜ (52488 ≤ length (now work)) × (1222 ≤ length (now table)) ⌝ }
     ensures { λ r. ⌜ Answers (now (file .entry)) r (now (table .entry)) (now (table .exit)) ⌝ }
 {
-    let f = jobfile::read_file(file);
+    let mut offsets = [0; 64];
+    let mut tables = [0; 260];
+    let f = jobfile::read_file(file, &mut offsets, &mut tables);
     let number = f.number;
     if number != 0 {
         return Planned::Refused(number);
     }
-    let offsets = f.offsets;
-    let givers = f.givers;
-    let takers = f.takers;
-    plan_jobs(
-        file,
-        &offsets,
-        &givers,
-        &takers,
-        f.jobs,
-        f.limit,
-        work,
-        table,
-    )
+    let before = windows::levels(&tables[..64], f.jobs);
+    if !before.ok {
+        return Planned::Refused(11);
+    }
+    let behind = windows::levels(&tables[64..128], f.jobs);
+    let release = before.level;
+    let tail = behind.level;
+    windows::lower_jobs(&release, f.jobs, &mut tables[128..194]);
+    windows::higher_jobs(&tail, f.jobs, &mut tables[194..260]);
+    let sets = &tables[..];
+    if 8 < windows::width(&sets[128..194], &sets[194..260], f.limit) {
+        return Planned::Refused(12);
+    }
+    let least = windows::least(&release, &tail, f.jobs);
+    plan_windows(file, &offsets, &tables, f.jobs, f.limit, least, work, table)
 }
 
 // The planner. After every answer but refusal 1 the first 65,536 bytes of the working buffer are zero; the table buffer is changed only

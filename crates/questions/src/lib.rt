@@ -6,7 +6,7 @@ use fields::wide;
 use fields::word_at;
 use jobset::Set;
 ghost use mathlib.Core.Path.{_≡_};
-ghost use Prim.Native.Nat.{ℕ, _<_, _≤_, max};
+ghost use Prim.Native.Nat.{ℕ, _<_, _≤_};
 ghost use lib.ListN.{length};
 ghost use lib.Dec.{leb};
 ghost use Rattle.rules.specs.Basics.{at, all, largest};
@@ -193,8 +193,8 @@ fn givers_kept(givers: Set, start: &[u8], board: &[u8], taker: usize) -> bool
 }
 
 // Question 18: are the needs kept, by the sets of givers of each job?
-pub fn needs_kept(givers: &[u64; 64], start: &[u8], board: &[u8]) -> bool
-    requires { ⌜ (length (now board) ≡ length (now start)) × (length (now start) ≤ 64) ⌝ }
+pub fn needs_kept(givers: &[u64], start: &[u8], board: &[u8]) -> bool
+    requires { ⌜ (64 ≤ length (now givers)) × (length (now board) ≡ length (now start)) × (length (now start) ≤ 64) ⌝ }
     ensures { λ r. ⌜ r ≡ setsKept (now (givers .entry)) (now (start .entry)) (now (board .entry)) ⌝ }
 {
     let mut taker = 0;

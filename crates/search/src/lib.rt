@@ -6,7 +6,8 @@ ghost use mathlib.Core.Path.{_≡_};
 ghost use Prim.Native.Nat.{_+_, _-_, _<_, _≤_};
 ghost use lib.ListN.{length};
 ghost use Rattle.jobset.specs.Sets.{members};
-ghost use Rattle.explore.specs.Slot.{tables};
+ghost use Rattle.jobset.specs.Arrays.{releasedIn, followedIn};
+ghost use Rattle.explore.specs.Slot.{tablesIn};
 ghost use Rattle.explore.specs.States.{WellFormed};
 ghost use Rattle.search.specs.Shortest.{startAll, startsTo, shortest};
 
@@ -45,17 +46,9 @@ fn starts_to(path: &[u64; 64], slots: usize) -> [u8; 64]
 
 // The shortest list of `least` to `limit` slots, the preferred one of its length. `dead` is room for the bitmap of states without
 // a plan: no answer depends on what it holds.
-pub fn search(
-    givers: &[u64; 64],
-    takers: &[u64; 64],
-    released: &[u64; 66],
-    followed: &[u64; 66],
-    least: usize,
-    limit: usize,
-    dead: &mut [u8],
-) -> Found
-    requires { ⌜ (52488 ≤ length (now dead)) × (limit ≤ 64) × WellFormed (now released) (now followed) limit ⌝ }
-    ensures { λ r. ⌜ r ≡ shortest (tables (now (givers .entry)) (now (takers .entry)) (now (released .entry)) (now (followed .entry))) (limit + 1 - least) least ⌝ }
+pub fn search(tables: &[u64; 260], least: usize, limit: usize, dead: &mut [u8]) -> Found
+    requires { ⌜ (52488 ≤ length (now dead)) × (limit ≤ 64) × WellFormed (releasedIn (now tables)) (followedIn (now tables)) limit ⌝ }
+    ensures { λ r. ⌜ r ≡ shortest (tablesIn (now (tables .entry))) (limit + 1 - least) least ⌝ }
 {
     let mut path = [0; 64];
     let mut next = least;
@@ -63,18 +56,7 @@ pub fn search(
         let slots = next;
         next += 1;
         bitmap::clear(dead, (slots * 6561 + 7) / 8);
-        if explore::explore(
-            givers,
-            followed,
-            dead,
-            Set::EMPTY,
-            Set::EMPTY,
-            slots,
-            0,
-            released,
-            takers,
-            &mut path,
-        ) {
+        if explore::explore(tables, dead, Set::EMPTY, Set::EMPTY, slots, 0, &mut path) {
             let starts = starts_to(&path, slots);
             return Found { slots, starts };
         }

@@ -9,8 +9,8 @@ use lib.Dec.{T, leb, eqb}
 use Rattle.rules.specs.Basics.{at, all, range}
 use Rattle.rules.specs.Fields.{Answer, refused, got, ask, after, numberOf, value}
 use Rattle.rules.specs.Needs.{Need, NeedsIn, circleFree}
-use Rattle.rules.specs.JobFile.{Job, JobFile, nthJob, nameOk, jobOf, readFile}
-use Rattle.rules.specs.Table.{Row, nthRow, starts, boardsOf, rowOf, decode, labelled, needsKept, rowStart}
+use Rattle.rules.specs.JobFile.{JobFile, nthJob, nameOk, jobOf, readFile}
+use Rattle.rules.specs.Table.{nthRow, starts, boardsOf, rowOf, decode, labelled, needsKept, rowStart}
 use Rattle.rules.specs.Answers.{check}
 use Rattle.laws.specs.Tests.{tests, T-and, T-leb, T-all, bool-ext}
 use Rattle.laws.specs.Lists.{nth-mem, tabulate-at}
@@ -32,7 +32,7 @@ use Rattle.table.specs.Cells.{rows-length, cells-yes, cells-no}
 use Rattle.table.specs.Entries.{cellNumber, verdictOf}
 use Rattle.table.specs.declared.Verdict.the-variants as verdict
 use Rattle.rows.specs.declared.Rows as table-rows
-use Rattle.jobfile.specs.declared.JobFile as code
+use Rattle.jobfile.specs.declared.Counts.{Counts}
 use Rattle.windows.specs.declared.JobLevels.{JobLevels}
 
 all-same : (n : ℕ) (p q : ℕ → Bool) → ((i : ℕ) → i < n → p i ≡ q i) → all p (range n 0) ≡ all q (range n 0)
@@ -46,7 +46,7 @@ module _ (file table : List ℕ) where
   unfolding verdictOf
   refused-by q e = rw e refl
 
-  module _ (F : code.JobFile) (reads : Reads file F) where
+  module _ (F : Counts) (offsets givers takers : List ℕ) (reads : Reads file F offsets givers takers) where
     -- ---- questions 2 to 10
 
     pub file-refused : (F .number ≡ 0 → ⊥) → verdict.Refused (F .number) ≡ verdictOf (check file table)
@@ -68,7 +68,7 @@ module _ (file table : List ℕ) where
       unfolding f
       file-is = readable file (bytes-all file bytes) (file-got .0) (file-got .1)
 
-      held : Held file f (record { fields = f .fields; limit = F .limit; jobs = F .jobs; offsets = F .offsets; givers = F .givers; takers = F .takers })
+      held : Held file f (record { fields = f .fields; limit = F .limit; jobs = F .jobs; offsets = offsets; givers = givers; takers = takers })
       unfolding f
       held = reads .held (file-got .0) (file-got .1)
 
@@ -80,7 +80,7 @@ module _ (file table : List ℕ) where
 
       -- ---- question 11
 
-      module _ (levels : JobLevels) (levels-are : (needs : List Need) → NeedsIn (F .jobs) needs → GiversAre (F .givers) needs → levels ≡ levelsOf (F .jobs) needs) where
+      module _ (levels : JobLevels) (levels-are : (needs : List Need) → NeedsIn (F .jobs) needs → GiversAre givers needs → levels ≡ levelsOf (F .jobs) needs) where
         free : circleFree (length (f .jobs)) (f .needs) ≡ levels .ok
         free = rw (← (held .jobs-is)) (sym (levels-ok (F .jobs) (f .needs)) ∙ sym (ap (λ (l : JobLevels). l .ok) (levels-are (f .needs) needs-in (held .givers-are))))
 
@@ -126,10 +126,10 @@ module _ (file table : List ℕ) where
               rows-fit = omega (arith, row-held .sizes, row-held .count-in, count-is)
 
               -- where the fields of job and row i begin
-              pub placed : (i : ℕ) → i < F .jobs → Placed file (at (F .offsets) i) table (at (r .offset) i)
+              pub placed : (i : ℕ) → i < F .jobs → Placed file (at offsets i) table (at (r .offset) i)
               placed i h = rw (row-held .offsets-are i (omega arith)) record {
                 job-whole = held .offsets-whole i h;
-                job-long = long (value file (at (F .offsets) i)) (rw (held .offsets-are i h) (file-is .names-in (nthJob (f .jobs) i) (nth-mem (f .jobs) i _ (omega (arith, held .jobs-is)))));
+                job-long = long (value file (at offsets i)) (rw (held .offsets-are i h) (file-is .names-in (nthJob (f .jobs) i) (nth-mem (f .jobs) i _ (omega (arith, held .jobs-is)))));
                 row-whole = row .is-whole;
                 row-long = omega (arith, row .sizes);
               }
@@ -144,17 +144,17 @@ module _ (file table : List ℕ) where
               unfolding tableOf rowNumber
               row-same i h = rw (row-held .offsets-are i (omega arith)) (sym (tabulate-at (rowNumber table) (r .count) 0 i _ (omega arith) ∙ let z : 0 + i ≡ i = omega arith in ap (rowNumber table) z))
 
-              labels : labelledIn file (F .offsets) table (r .offset) (F .jobs) ≡ labelled (length (f .jobs)) (f .jobs) (tableOf table (r .count) .rows)
+              labels : labelledIn file offsets table (r .offset) (F .jobs) ≡ labelled (length (f .jobs)) (f .jobs) (tableOf table (r .count) .rows)
               unfolding labelledIn labelled labelledBy
               labels = rw (← (held .jobs-is)) (all-same (F .jobs) _ _ (λ i h. rw (held .offsets-are i h, row-same i h) refl))
 
-              pub wrong-label : labelledIn file (F .offsets) table (r .offset) (F .jobs) ≡ false → verdict.Refused 15 ≡ verdictOf (check file table)
+              pub wrong-label : labelledIn file offsets table (r .offset) (F .jobs) ≡ false → verdict.Refused 15 ≡ verdictOf (check file table)
               unfolding ask
               wrong-label e = refused-by 15 (questions ∙ rw (sym labels ∙ e) refl)
 
               -- ---- questions 16 and 17
 
-              module _ (right : labelledIn file (F .offsets) table (r .offset) (F .jobs) ≡ true)
+              module _ (right : labelledIn file offsets table (r .offset) (F .jobs) ≡ true)
                   (q : ℕ) (q-is : q ≡ cellNumber (F .limit) (r .slots) (r .boards) (take (r .count) (r .start)) (take (r .count) (r .board))) where
                 sixteen : check file table ≡ q16 f (tableOf table (r .count))
                 unfolding ask
@@ -169,15 +169,15 @@ module _ (file table : List ℕ) where
                   eighteen : check file table ≡ q18 f (tableOf table (r .count))
                   eighteen = sixteen ∙ rw (n-is, ← (held .limit-is)) (cells-yes table r row-held (F .limit) q (q18 f (tableOf table (r .count))) q-is z)
 
-                  kept : setsKept (F .givers) (take (F .jobs) (r .start)) (take (F .jobs) (r .board)) ≡ needsKept (f .needs) (starts (tableOf table (r .count))) (boardsOf (tableOf table (r .count)))
+                  kept : setsKept givers (take (F .jobs) (r .start)) (take (F .jobs) (r .board)) ≡ needsKept (f .needs) (starts (tableOf table (r .count))) (boardsOf (tableOf table (r .count)))
                   kept =
-                      ap₂ (setsKept (F .givers)) (ap (λ (n : ℕ). take n (r .start)) (sym count-is) ∙ row-held .starts-are) (ap (λ (n : ℕ). take n (r .board)) (sym count-is) ∙ row-held .boards-are)
-                      ∙ kept-is (F .jobs) (f .needs) (F .givers) (starts (tableOf table (r .count))) (boardsOf (tableOf table (r .count))) needs-in (held .givers-are) (length-map (tableOf table (r .count) .rows) (λ w. w .start) ∙ rows-length table (r .count) ∙ count-is) (held .few)
+                      ap₂ (setsKept givers) (ap (λ (n : ℕ). take n (r .start)) (sym count-is) ∙ row-held .starts-are) (ap (λ (n : ℕ). take n (r .board)) (sym count-is) ∙ row-held .boards-are)
+                      ∙ kept-is (F .jobs) (f .needs) givers (starts (tableOf table (r .count))) (boardsOf (tableOf table (r .count))) needs-in (held .givers-are) (length-map (tableOf table (r .count) .rows) (λ w. w .start) ∙ rows-length table (r .count) ∙ count-is) (held .few)
 
-                  pub need-broken : setsKept (F .givers) (take (F .jobs) (r .start)) (take (F .jobs) (r .board)) ≡ false → verdict.Refused 18 ≡ verdictOf (check file table)
+                  pub need-broken : setsKept givers (take (F .jobs) (r .start)) (take (F .jobs) (r .board)) ≡ false → verdict.Refused 18 ≡ verdictOf (check file table)
                   unfolding ask
                   need-broken e = refused-by 18 (eighteen ∙ rw (sym kept ∙ e) refl)
 
-                  pub passes : setsKept (F .givers) (take (F .jobs) (r .start)) (take (F .jobs) (r .board)) ≡ true → verdict.Passes ≡ verdictOf (check file table)
+                  pub passes : setsKept givers (take (F .jobs) (r .start)) (take (F .jobs) (r .board)) ≡ true → verdict.Passes ≡ verdictOf (check file table)
                   unfolding ask verdictOf
                   passes e = rw (eighteen, sym kept ∙ e) refl

@@ -24,14 +24,15 @@ pub enum Verdict {
 pub fn check(file: &[u8], table: &[u8]) -> Verdict
     ensures { λ r. ⌜ r ≡ verdictOf (Answers·check (now (file .entry)) (now (table .entry))) ⌝ }
 {
-    let f = jobfile::read_file(file);
+    let mut offsets = [0; 64];
+    let mut tables = [0; 260];
+    let f = jobfile::read_file(file, &mut offsets, &mut tables);
     let number = f.number;
     if number != 0 {
         return Verdict::Refused(number);
     }
     let jobs = f.jobs;
-    let givers = f.givers;
-    let levels = windows::levels(&givers, jobs);
+    let levels = windows::levels(&tables[..64], jobs);
     if !levels.ok {
         return Verdict::Refused(11);
     }
@@ -42,9 +43,8 @@ pub fn check(file: &[u8], table: &[u8]) -> Verdict
     if t.count != jobs {
         return Verdict::Refused(14);
     }
-    let fields = f.offsets;
     let rows = t.offset;
-    if !labelled(file, &fields, table, &rows, jobs) {
+    if !labelled(file, &offsets, table, &rows, jobs) {
         return Verdict::Refused(15);
     }
     let broken = cells(t, f.limit);
@@ -53,7 +53,7 @@ pub fn check(file: &[u8], table: &[u8]) -> Verdict
     }
     let starts = t.start;
     let boards = t.board;
-    if !needs_kept(&givers, &starts[..jobs], &boards[..jobs]) {
+    if !needs_kept(&tables[..64], &starts[..jobs], &boards[..jobs]) {
         return Verdict::Refused(18);
     }
     Verdict::Passes

@@ -18,7 +18,7 @@ use Rattle.jobset.specs.Inclusion.{minus-subset}
 use Rattle.jobset.specs.Members.{end, fewer-members}
 use Rattle.windows.specs.JobSets.{jobsThat, jobs-same, jobs-minus, jobs-count}
 use Rattle.windows.specs.Windows.{lowerJobs, higherJobs, windowAt, widthIn}
-use Rattle.windows.specs.WindowLaws.{releasedIn, followedIn, released-at, followed-at, released-first, followed-falls}
+use Rattle.windows.specs.WindowLaws.{releasedSets, followedSets, released-at, followed-at, released-first, followed-falls}
 
 pub most-same : (f g : ℕ → ℕ) (k : ℕ) → ((s : ℕ) → s < k → f s ≡ g s) → most f k ≡ most g k
 most-same f g k h = omega (arith, most-le f k (most g k) (λ s l. omega (arith, h s l, most-ge g k s l)), most-le g k (most f k) (λ s l. omega (arith, h s l, most-ge f k s l)))
@@ -39,10 +39,10 @@ module _ (release tail : List ℕ) (n : ℕ) (n-le : n ≤ 64) where
   tl i = at tail (63 - i)
 
   abbrev R : List ℕ
-  R = releasedIn release tail n
+  R = releasedSets release tail n
 
   abbrev F : List ℕ
-  F = followedIn release tail n
+  F = followedSets release tail n
 
   in-window : (C s i : ℕ) → s < C → (ltb (rel i) (s + 1) && not (leb (C - s) (tl i))) ≡ window rel tl C s i
   in-window C s i h = bool-ext (ltb (rel i) (s + 1) && not (leb (C - s) (tl i))) (window rel tl C s i)

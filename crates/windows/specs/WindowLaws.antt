@@ -47,53 +47,53 @@ table-next f l k x a e h m u = go (ℕ-discrete m k)
     go (yes q) = rw q (ap (λ (y : ℕ). record { bits = y }) (getD-set-same l k x 0 a) ∙ e)
     go (no q) = ap (λ (y : ℕ). record { bits = y }) (getD-set-other l k m x 0 q) ∙ h m (omega arith)
 
--- ---- what a caller of `windows` uses
+-- ---- the windows by releases and tails
 
 -- the two tables
-abbrev pub releasedIn : List ℕ → List ℕ → ℕ → List ℕ
-releasedIn release tail n = windowsOf release tail n .released
+abbrev pub releasedSets : List ℕ → List ℕ → ℕ → List ℕ
+releasedSets release tail n = windowsOf release tail n .released
 
-abbrev pub followedIn : List ℕ → List ℕ → ℕ → List ℕ
-followedIn release tail n = windowsOf release tail n .followed
+abbrev pub followedSets : List ℕ → List ℕ → ℕ → List ℕ
+followedSets release tail n = windowsOf release tail n .followed
 
 module _ (release tail : List ℕ) (n : ℕ) (n-le : n ≤ 64) where
-  pub released-at : (s : ℕ) → s < 66 → setAt (releasedIn release tail n) s ≡ lowerJobs release n s
+  pub released-at : (s : ℕ) → s < 66 → setAt (releasedSets release tail n) s ≡ lowerJobs release n s
   unfolding windowsOf
   released-at s h = table-at (lowerJobs release n) s h
 
-  pub followed-at : (k : ℕ) → k < 66 → setAt (followedIn release tail n) k ≡ higherJobs tail n k
+  pub followed-at : (k : ℕ) → k < 66 → setAt (followedSets release tail n) k ≡ higherJobs tail n k
   unfolding windowsOf
   followed-at k h = table-at (higherJobs tail n) k h
 
   -- job i is in released[s] where its release is below s, and nothing but jobs is there
-  pub member-released : (s i : ℕ) → s < 66 → i < n → member (setAt (releasedIn release tail n) s) (63 - i) ≡ ltb (at release (63 - i)) s
+  pub member-released : (s i : ℕ) → s < 66 → i < n → member (setAt (releasedSets release tail n) s) (63 - i) ≡ ltb (at release (63 - i)) s
   unfolding lowerJobs
   member-released s i h l = rw (released-at s h) (member-job n n-le (λ i. ltb (at release (63 - i)) s) i l)
 
-  pub released-jobs : (s p : ℕ) → s < 66 → member (setAt (releasedIn release tail n) s) p ≡ true → (p < 64) × (63 - p < n)
+  pub released-jobs : (s p : ℕ) → s < 66 → member (setAt (releasedSets release tail n) s) p ≡ true → (p < 64) × (63 - p < n)
   unfolding lowerJobs
   released-jobs s p h m = let w = in-jobs (λ i. ltb (at release (63 - i)) s) n p n-le .0 (rw (released-at s h) at m) in (w .0, w .1)
 
   -- job i is in followed[k] where its tail is at least k, and nothing but jobs is there
-  pub member-followed : (k i : ℕ) → k < 66 → i < n → member (setAt (followedIn release tail n) k) (63 - i) ≡ leb k (at tail (63 - i))
+  pub member-followed : (k i : ℕ) → k < 66 → i < n → member (setAt (followedSets release tail n) k) (63 - i) ≡ leb k (at tail (63 - i))
   unfolding higherJobs
   member-followed k i h l = rw (followed-at k h) (member-job n n-le (λ i. leb k (at tail (63 - i))) i l)
 
-  pub followed-jobs : (k p : ℕ) → k < 66 → member (setAt (followedIn release tail n) k) p ≡ true → (p < 64) × (63 - p < n)
+  pub followed-jobs : (k p : ℕ) → k < 66 → member (setAt (followedSets release tail n) k) p ≡ true → (p < 64) × (63 - p < n)
   unfolding higherJobs
   followed-jobs k p h m = let w = in-jobs (λ i. leb k (at tail (63 - i))) n p n-le .0 (rw (followed-at k h) at m) in (w .0, w .1)
 
   -- released rises from the empty set, and followed falls
-  pub released-first : setAt (releasedIn release tail n) 0 ≡ empty
+  pub released-first : setAt (releasedSets release tail n) 0 ≡ empty
   unfolding lowerJobs
   released-first = released-at 0 (omega arith) ∙ jobs-none n n-le (λ i. ltb (at release (63 - i)) 0) (λ i h. le-ltb (at release (63 - i)) 0 (omega arith))
 
-  pub released-rises : (s t : ℕ) → s ≤ t → t < 66 → Subset (setAt (releasedIn release tail n) s) (setAt (releasedIn release tail n) t)
+  pub released-rises : (s t : ℕ) → s ≤ t → t < 66 → Subset (setAt (releasedSets release tail n) s) (setAt (releasedSets release tail n) t)
   unfolding lowerJobs
   released-rises s t h l = rw (released-at s (omega arith), released-at t l) (jobs-subset n n-le (λ i. ltb (at release (63 - i)) s) (λ i. ltb (at release (63 - i)) t)
       (λ i u m. lt-ltb (at release (63 - i)) t (omega (arith, ltb-true (at release (63 - i)) s m))))
 
-  pub followed-falls : (k m : ℕ) → k ≤ m → m < 66 → Subset (setAt (followedIn release tail n) m) (setAt (followedIn release tail n) k)
+  pub followed-falls : (k m : ℕ) → k ≤ m → m < 66 → Subset (setAt (followedSets release tail n) m) (setAt (followedSets release tail n) k)
   unfolding higherJobs
   followed-falls k m h l = rw (followed-at k (omega arith), followed-at m l) (jobs-subset n n-le (λ i. leb m (at tail (63 - i))) (λ i. leb k (at tail (63 - i)))
       (λ i u q. le-leb k (at tail (63 - i)) (omega (arith, leb-true m (at tail (63 - i)) q))))
@@ -169,18 +169,10 @@ module _ (levels : List ℕ) (n : ℕ) (n-le : n ≤ 64) where
       ge : (i : ℕ) → ¬ (at levels (63 - i) < k) → k ≤ at levels (63 - i)
       ge i f = omega arith
 
--- the steps of `windows`, one after the other
-pub windows-made : (release tail : List ℕ) (n : ℕ) → n ≤ 64
-    → record {
-      least = longestOf release tail n;
-      released = table (firstSets (table (levelSet release n)));
-      followed = table (λ k. minus (allJobs n) (setAt (table (firstSets (table (levelSet tail n)))) k));
-    }
-    ≡ windowsOf release tail n
-unfolding windowsOf
-windows-made release tail n n-le =
-    rw (
-      table-same (firstSets (table (levelSet release n))) (lowerJobs release n) (first-lower release n n-le),
-      table-same (λ k. minus (allJobs n) (setAt (table (firstSets (table (levelSet tail n)))) k)) (higherJobs tail n) (λ k h.
-          ap (minus (allJobs n)) (table-at (firstSets (table (levelSet tail n))) k h ∙ first-lower tail n n-le k h) ∙ others-higher tail n n-le k),
-    )
+  -- the steps of `lower_jobs` and of `higher_jobs`
+  pub lower-made : table (firstSets (table (levelSet levels n))) ≡ table (lowerJobs levels n)
+  lower-made = table-same (firstSets (table (levelSet levels n))) (lowerJobs levels n) first-lower
+
+  pub higher-made : table (λ k. minus (allJobs n) (setAt (table (lowerJobs levels n)) k)) ≡ table (higherJobs levels n)
+  higher-made = table-same (λ k. minus (allJobs n) (setAt (table (lowerJobs levels n)) k)) (higherJobs levels n) (λ k h.
+      ap (minus (allJobs n)) (table-at (lowerJobs levels n) k h) ∙ others-higher k)

@@ -8,7 +8,6 @@ use Rattle.rules.specs.Needs.{Need}
 use Rattle.rules.specs.Windows.{swap}
 use Rattle.jobset.specs.declared.Set.{Set}
 use Rattle.jobset.specs.Sets.{setAt, empty, union, minus, members}
-use Rattle.windows.specs.declared.JobWindows.{JobWindows}
 use Rattle.windows.specs.JobSets.{jobsThat}
 use Rattle.windows.specs.Levels.{levelsOf}
 
@@ -44,7 +43,13 @@ lowerJobs levels n s = jobsThat (λ i. ltb (at levels (63 - i)) s) n
 unfoldable pub higherJobs : List ℕ → ℕ → ℕ → Set
 higherJobs levels n k = jobsThat (λ i. leb k (at levels (63 - i))) n
 
--- the windows of n jobs, by releases and tails by place: released[s] has the releases below s, followed[k] the tails of at least k
+-- the least makespan that leaves every job a slot; released[s] has the jobs with a release below s, followed[k] those with a tail of at least k
+pub record JobWindows : Type 0 where
+  pub least : ℕ
+  pub released : List ℕ
+  pub followed : List ℕ
+
+-- the windows of n jobs, by releases and tails by place
 unfoldable pub windowsOf : List ℕ → List ℕ → ℕ → JobWindows
 windowsOf release tail n = record {
   least = longestOf release tail n;

@@ -6,13 +6,14 @@ use fields::wide;
 use jobset::Set;
 ghost use mathlib.Core.Path.{_≡_};
 ghost use mathlib.Core.List.{List};
-ghost use Prim.Native.Nat.{_+_, _-_, _<_, _≤_, max};
+ghost use Prim.Native.Nat.{_+_, _-_, _<_, _≤_};
+ghost use lib.ListN.{length};
 ghost use Rattle.rules.specs.Needs.{Need, NeedsIn};
 ghost use Rattle.jobset.specs.Sets.{setAt, minus};
 ghost use Rattle.jobset.specs.Arrays.{GiversAre};
 ghost use Rattle.windows.specs.JobSets.{allJobs};
 ghost use Rattle.windows.specs.Levels.{behind, levelBy, nextPlace, levelsOf};
-ghost use Rattle.windows.specs.Windows.{table, cap, levelSet, firstSets, longestOf, windowsOf, widthIn};
+ghost use Rattle.windows.specs.Windows.{table, cap, levelSet, firstSets, lowerJobs, higherJobs, longestOf, widthIn};
 
 // ---- levels: question 11, releases and tails
 
@@ -86,8 +87,8 @@ fn one_less(n: usize) -> usize
 
 // The levels of the jobs by the arcs, depth first: releases where the arcs of a job are its givers, tails where they are its takers.
 // A job is left until it has its level. It waits on the path while one of its givers is left. A path as long as there are jobs goes in a circle.
-pub fn levels(arcs: &[u64; 64], jobs: usize) -> JobLevels
-    requires { ⌜ jobs ≤ 64 ⌝ }
+pub fn levels(arcs: &[u64], jobs: usize) -> JobLevels
+    requires { ⌜ (jobs ≤ 64) × (64 ≤ length (now arcs)) ⌝ }
     ensures { λ r. ⌜ ((needs : List Need) → NeedsIn jobs needs → GiversAre (now (arcs .entry)) needs → r ≡ levelsOf jobs needs) ⌝ }
 {
     let mut left = all_jobs(jobs);
@@ -125,14 +126,6 @@ pub fn levels(arcs: &[u64; 64], jobs: usize) -> JobLevels
 
 // ---- windows and width
 
-// least: the least makespan that leaves every job a slot. released[s]: the jobs with a release below s.
-// followed[k]: the jobs with a tail of at least k.
-pub struct JobWindows {
-    pub least: usize,
-    pub released: [u64; 66],
-    pub followed: [u64; 66],
-}
-
 // A level, but at most 65.
 fn capped(level: u8) -> usize
     ensures { λ r. ⌜ r ≡ cap level ⌝ }
@@ -158,31 +151,48 @@ fn by_level(levels: &[u8; 64], jobs: usize) -> [u64; 66]
 }
 
 // Of each number that many sets, from the first on, put together.
-fn below(sets: [u64; 66]) -> [u64; 66]
-    ensures { λ r. ⌜ r ≡ table (firstSets sets) ⌝ }
+fn below(sets: &[u64; 66], out: &mut [u64])
+    requires { ⌜ length (now out) ≡ 66 ⌝ }
+    ensures { λ _. ⌜ now (out .exit) ≡ table (firstSets (now (sets .entry))) ⌝ }
 {
-    let mut out = [0; 66];
+    out[0] = 0;
     let mut s = 0;
     while s < 65 {
         let next = s + 1;
         out[next] = out[s] | sets[s];
         s = next;
     }
-    out
 }
 
-// Of each number the jobs that are not in its set.
-fn others(all: Set, sets: [u64; 66]) -> [u64; 66]
-    ensures { λ r. ⌜ r ≡ table (λ k. minus all (setAt sets k)) ⌝ }
+// Of each number the jobs that are not in its set, in place.
+fn others(all: Set, out: &mut [u64])
+    requires { ⌜ length (now out) ≡ 66 ⌝ }
+    ensures { λ _. ⌜ now (out .exit) ≡ table (λ k. minus all (setAt (now (out .entry)) k)) ⌝ }
 {
-    let mut out = [0; 66];
     let mut k = 0;
     while k < 66 {
-        let rest = all.minus(Set { bits: sets[k] });
+        let rest = all.minus(Set { bits: out[k] });
         out[k] = rest.bits;
         k += 1;
     }
-    out
+}
+
+// Of each number s the jobs with a level below s.
+pub fn lower_jobs(levels: &[u8; 64], jobs: usize, out: &mut [u64])
+    requires { ⌜ (jobs ≤ 64) × (length (now out) ≡ 66) ⌝ }
+    ensures { λ _. ⌜ now (out .exit) ≡ table (lowerJobs (now (levels .entry)) jobs) ⌝ }
+{
+    let sets = by_level(levels, jobs);
+    below(&sets, out);
+}
+
+// Of each number k the jobs with a level of at least k.
+pub fn higher_jobs(levels: &[u8; 64], jobs: usize, out: &mut [u64])
+    requires { ⌜ (jobs ≤ 64) × (length (now out) ≡ 66) ⌝ }
+    ensures { λ _. ⌜ now (out .exit) ≡ table (higherJobs (now (levels .entry)) jobs) ⌝ }
+{
+    lower_jobs(levels, jobs, out);
+    others(all_jobs(jobs), out);
 }
 
 // The slots that a job needs with all that must stand before and behind it.
@@ -192,8 +202,8 @@ fn span(release: u8, tail: u8) -> usize
     release as usize + tail as usize + 1
 }
 
-// The greatest span of the jobs.
-fn longest(release: &[u8; 64], tail: &[u8; 64], jobs: usize) -> usize
+// The least makespan that leaves every job a slot: the greatest span of the jobs.
+pub fn least(release: &[u8; 64], tail: &[u8; 64], jobs: usize) -> usize
     requires { ⌜ jobs ≤ 64 ⌝ }
     ensures { λ r. ⌜ r ≡ longestOf (now (release .entry)) (now (tail .entry)) jobs ⌝ }
 {
@@ -206,24 +216,9 @@ fn longest(release: &[u8; 64], tail: &[u8; 64], jobs: usize) -> usize
     most
 }
 
-// The windows of the jobs, by releases and tails, for every makespan.
-pub fn windows(release: &[u8; 64], tail: &[u8; 64], jobs: usize) -> JobWindows
-    requires { ⌜ jobs ≤ 64 ⌝ }
-    ensures { λ r. ⌜ r ≡ windowsOf (now (release .entry)) (now (tail .entry)) jobs ⌝ }
-{
-    let least = longest(release, tail, jobs);
-    let released = below(by_level(release, jobs));
-    let followed = others(all_jobs(jobs), below(by_level(tail, jobs)));
-    JobWindows {
-        least,
-        released,
-        followed,
-    }
-}
-
 // The largest number of windows that hold one slot below the limit: those begun before a slot and not yet due hold the slot before it.
-pub fn width(released: &[u64; 66], followed: &[u64; 66], limit: usize) -> usize
-    requires { ⌜ limit ≤ 64 ⌝ }
+pub fn width(released: &[u64], followed: &[u64], limit: usize) -> usize
+    requires { ⌜ (limit ≤ 64) × (66 ≤ length (now released)) × (66 ≤ length (now followed)) ⌝ }
     ensures { λ r. ⌜ r ≡ widthIn (now (released .entry)) (now (followed .entry)) limit ⌝ }
 {
     let mut most = 0;

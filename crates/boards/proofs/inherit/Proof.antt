@@ -5,7 +5,7 @@ use native.Mathlib.Omega.{arith}
 use borrow.Author.Needs.{needs}
 use Rattle.rules.specs.Basics.{choose}
 use Rattle.jobset.specs.Lowest.{lowest-member}
-use Rattle.boards.specs.Placing.{inherit, giversIn, takes, left}
+use Rattle.boards.specs.Placing.{inherit, lastGivers, takes, left}
 use Rattle.boards.proofs.inherit.Statement.{statement}
 use Rattle.boards.proofs.inherit.Tie as tie
 
@@ -31,7 +31,7 @@ with-requires : tie.Need-with-requires
 with-requires c κs = search needs
 
 returns : tie.Need-returns
-unfolding inherit giversIn left choose
+unfolding inherit lastGivers left choose
 returns c =
     rw (c .with .ensures) (simp (sym (c .before .before .before .intersection .ensures), sym (c .before .before .is-empty .ensures), c .before .if1 .taken))
 
@@ -57,7 +57,7 @@ without-requires c κs =
     c .before .before .before .before .before .before .before .before .pre .1 (c .before .lowest .result)
 
 returns-2 : tie.Need-returns-2
-unfolding inherit giversIn takes choose
+unfolding inherit lastGivers takes choose
 returns-2 c =
     simp (c .without .ensures, c .before .before .lowest .ensures, sym (c .before .before .before .before .before .intersection .ensures), sym (c .before .before .before .before .is-empty .ensures), c .before .before .before .if1 .left)
 

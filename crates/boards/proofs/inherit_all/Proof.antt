@@ -12,11 +12,11 @@ use Rattle.boards.proofs.inherit_all.Statement.{statement}
 use Rattle.boards.proofs.inherit_all.Tie as tie
 
 abbrev Inv-loop : tie.InvT-loop
-Inv-loop givers last boards₀ z₀ rest₀ boards z rest =
-    (rest .bits < 2 ^ 64) × Below64 boards × (each (inherit givers last) (falling rest) (slotOf z boards) ≡ each (inherit givers last) (falling rest₀) (slotOf z₀ boards₀))
+Inv-loop tables last boards₀ z₀ rest₀ boards z rest =
+    (rest .bits < 2 ^ 64) × Below64 boards × (each (inherit tables last) (falling rest) (slotOf z boards) ≡ each (inherit tables last) (falling rest₀) (slotOf z₀ boards₀))
 
 abbrev μ-loop : tie.MeasureT-loop
-μ-loop givers last boards₀ z₀ rest₀ boards z rest =
+μ-loop tables last boards₀ z₀ rest₀ boards z rest =
     rest .bits
 
 turned : (c : tie.After-highest Inv-loop μ-loop) → FallingTurn (c .before .before .before .loop .rest) (c .highest .result)
@@ -55,7 +55,7 @@ loop-again c =
     let l = c .before .before .before .before .before .before .loop in
     let a = c .before .before .before .before .before .before .before .args in (
       search needs,
-      rw (ap (λ (w : Slot). w .boards) (c .inherit .ensures)) (inherit-below (a .givers .now) (a .last) (c .before .before .before .highest .result) (slotOf (l .z) (l .boards)) (l .inv .1)),
+      rw (ap (λ (w : Slot). w .boards) (c .inherit .ensures)) (inherit-below (a .tables .now) (a .last) (c .before .before .before .highest .result) (slotOf (l .z) (l .boards)) (l .inv .1)),
       rw (c .before .before .without .ensures) (each-turn _ _ _ _ _ (turned (c .before .before .before)) (c .inherit .ensures) ∙ l .inv .2),
     )
 

@@ -84,7 +84,7 @@ module _ {M : Type 1} (𝓤 : URA M) (H : Heap 𝓤) (A : Atoms 𝓤) (W : Given
       peeks ! U.the-row (Is U.the-row) (shows 𝓤 H A U.the-row) t (w ∷ []) (λ ist.
       land ! (from ! (stop !)) (init ! 19 refl (LL.lawful U.the-type U′.the-laws 𝓤 H A W .typed t _ ist .0)) $ drop ! $
       assigns ! (of-opd ! (lit ! tt)) (from ! (stop !)) (init ! 16 refl (tt, record { fits = lit< tt })) $
-      -- [_13; …; _0; …; the tokens; what rows, givers and slots own]
+      -- [_13; …; _0; …; the tokens; what rows, tables and slots own]
       move ! (29 ∷ []) $ fsplit ! $ fsplit ! $ move ! (1 ∷ []) $ fsplit ! $ move ! (3 ∷ []) $ fsplit ! $ move ! (33 ∷ []) $ split ! $ move ! (4 ∷ 5 ∷ 0 ∷ []) $
       opens-slice ! tt T.the-row ys b o $ keep ! (0 ∷ 8 ∷ 9 ∷ 10 ∷ 11 ∷ 12 ∷ 13 ∷ 14 ∷ 15 ∷ 16 ∷ 17 ∷ 18 ∷ 19 ∷ 20 ∷ 21 ∷ 22 ∷ 23 ∷ 24 ∷ 25 ∷ 26 ∷ 27 ∷ 28 ∷ 29 ∷ 30 ∷ 31 ∷ 32 ∷ 33 ∷ 34 ∷ 35 ∷ 1 ∷ 2 ∷ 3 ∷ 4 ∷ 5 ∷ []) $
       by ! (copies-out 𝓤 H A W mem run p 𝓣 known-with known-place known-record (record { l₀ = l₀; l₁ = l₁; l₂ = l₂; l₃ = l₃; l₄ = l₄; l₅ = l₅; l₆ = l₆; l₇ = l₇; l₈ = l₈; l₉ = l₉; l₁₀ = l₁₀; l₁₁ = l₁₁; l₁₂ = l₁₂; l₁₃ = l₁₃ }) t w ist e)))))))))))))))))))
@@ -100,7 +100,7 @@ module _ {M : Type 1} (𝓤 : URA M) (H : Heap 𝓤) (A : Atoms 𝓤) (W : Given
 
   pr-meets : Meets 𝓤 H A pr.signature (WpFn 𝓤 H (𝓣 .C) (𝓣 .Λ) code.function) (pr.spec 𝓤 H A mem run)
   pr-meets =
-      walk-meets 𝓤 H A pr.ended stayed W (goes-slice 𝓤 H A W 2 0 tt (plain (λ _. T.the-row)), (goes-none-ref 𝓤 H A W 2 (1 ∷ []) tt (arrayOf (plain (λ _. u64)) 64) kept, (goes-none 𝓤 H A W 2 (λ _. usize) kept (λ κs x f. refl), tt))) (pr.clauses 𝓤 H A mem run)
+      walk-meets 𝓤 H A pr.ended stayed W (goes-slice 𝓤 H A W 2 0 tt (plain (λ _. T.the-row)), (goes-none-ref 𝓤 H A W 2 (1 ∷ []) tt (arrayOf (plain (λ _. u64)) 260) kept, (goes-none 𝓤 H A W 2 (λ _. usize) kept (λ κs x f. refl), tt))) (pr.clauses 𝓤 H A mem run)
       (WpFn 𝓤 H (𝓣 .C) (𝓣 .Λ) code.function) (WpFn-mono 𝓤 H (W .laws) 𝓣 code.function) pr-walks
 
 pub place-rows-spec : {M : Type 1} → stated.statement M

@@ -10,11 +10,11 @@ use Rattle.boards.proofs.place_slots.Statement.{statement}
 use Rattle.boards.proofs.place_slots.Tie as tie
 
 abbrev Inv-loop : tie.InvT-loop
-Inv-loop givers runs slots boards₀ last₀ s₀ boards last s =
-    (s ≤ slots) × Below64 boards × (placeSlots givers runs (slots - s) s last boards ≡ placeSlots givers runs slots s₀ last₀ boards₀)
+Inv-loop tables runs slots boards₀ last₀ s₀ boards last s =
+    (s ≤ slots) × Below64 boards × (placeSlots tables runs (slots - s) s last boards ≡ placeSlots tables runs slots s₀ last₀ boards₀)
 
 abbrev μ-loop : tie.MeasureT-loop
-μ-loop givers runs slots boards₀ last₀ s₀ boards last s =
+μ-loop tables runs slots boards₀ last₀ s₀ boards last s =
     slots - s
 
 loop-holds : tie.Need-loop-holds Inv-loop μ-loop

@@ -5,17 +5,18 @@ use native.Mathlib.Omega.{arith}
 use mathlib.Core.Path.{_≡_, refl, sym, ap, _∙_}
 use Prim.Native.Nat.{_<_, _^_}
 use Rattle.jobset.specs.Sets.{members}
+use Rattle.jobset.specs.Arrays.{giversIn, giver-set}
 use Rattle.jobset.specs.Members.{Turn, turn, end}
 use Rattle.explore.specs.Slot.{sortJobs, candidatesOf}
 use Rattle.explore.proofs.candidates_of.Statement.{statement}
 use Rattle.explore.proofs.candidates_of.Tie as tie
 
 abbrev Inv-loop : tie.InvT-loop
-Inv-loop givers done last rest₀ candidates₀ rest candidates =
-    (rest .bits < 2 ^ 64) × (sortJobs givers done last candidates (members rest) ≡ candidatesOf givers rest₀ done last)
+Inv-loop tables done last rest₀ candidates₀ rest candidates =
+    (rest .bits < 2 ^ 64) × (sortJobs (giversIn tables) done last candidates (members rest) ≡ candidatesOf (giversIn tables) rest₀ done last)
 
 abbrev μ-loop : tie.MeasureT-loop
-μ-loop givers done last rest₀ candidates₀ rest candidates = rest .bits
+μ-loop tables done last rest₀ candidates₀ rest candidates = rest .bits
 
 -- what a turn knows
 turned : (c : tie.After-lowest Inv-loop μ-loop) → Turn (c .before .before .before .loop .rest) (c .lowest .result)
@@ -55,8 +56,8 @@ loop-again c =
     let l = c .before .before .before .before .before .before .loop in
     let a = c .before .before .before .before .before .before .before .args in (
       search needs,
-      rw (c .rest .ensures ∙ turned (c .before .before .before) .rest-is, c .before .sort-job .ensures)
-          (sym (ap (sortJobs (a .givers .now) (a .done) (a .last) (l .candidates)) (turned (c .before .before .before) .first)) ∙ l .inv .1),
+      rw (c .rest .ensures ∙ turned (c .before .before .before) .rest-is, c .before .sort-job .ensures, ← (giver-set (a .tables .now) (c .before .before .before .lowest .result) (turned (c .before .before .before) .below-64)))
+          (sym (ap (sortJobs (giversIn (a .tables .now)) (a .done) (a .last) (l .candidates)) (turned (c .before .before .before) .first)) ∙ l .inv .1),
     )
 
 returns : tie.Need-returns Inv-loop μ-loop
@@ -64,7 +65,7 @@ unfolding sortJobs
 returns c =
     let l = c .before .before .loop in
     let a = c .before .before .before .args in
-    sym (ap (sortJobs (a .givers .now) (a .done) (a .last) (l .candidates)) (end (l .rest) (c .before .is-empty .result) (c .before .is-empty .ensures) (c .if1 .left) .no-members)) ∙ l .inv .1
+    sym (ap (sortJobs (giversIn (a .tables .now)) (a .done) (a .last) (l .candidates)) (end (l .rest) (c .before .is-empty .result) (c .before .is-empty .ensures) (c .if1 .left) .no-members)) ∙ l .inv .1
 
 pub candidates-of-spec : {M : Type 1} → statement M
 candidates-of-spec =

@@ -10,6 +10,7 @@ use Prim.Native.Nat.{ℕ, _<_, _^_}
 use Rattle.rules.specs.Basics.{all}
 use Rattle.jobset.specs.declared.Set.{Set}
 use Rattle.jobset.specs.Sets.{setAt, intersection, isOne, without, members}
+use Rattle.jobset.specs.Arrays.{takersIn, taker-set}
 use Rattle.jobset.specs.Members.{Turn, turn, end}
 use Rattle.explore.specs.Slot.{exact}
 use Rattle.explore.proofs.is_exact.Statement.{statement}
@@ -20,23 +21,25 @@ abbrev one-taker : List ℕ → Set → ℕ → Bool
 one-taker takers subset i = isOne (intersection subset (setAt takers i))
 
 abbrev Inv-loop : tie.InvT-loop
-Inv-loop takers subset rest₀ rest = (rest .bits < 2 ^ 64) × (all (one-taker takers subset) (members rest) ≡ exact takers rest₀ subset)
+Inv-loop tables subset rest₀ rest = (rest .bits < 2 ^ 64) × (all (one-taker (takersIn tables) subset) (members rest) ≡ exact (takersIn tables) rest₀ subset)
 
 abbrev μ-loop : tie.MeasureT-loop
-μ-loop takers subset rest₀ rest = rest .bits
+μ-loop tables subset rest₀ rest = rest .bits
 
 -- what a turn knows
 turned : (c : tie.After-lowest Inv-loop μ-loop) → Turn (c .before .before .before .loop .rest) (c .lowest .result)
 turned c = turn (c .before .before .before .loop .rest) (c .before .before .is-empty .result) (c .lowest .result) (c .before .before .before .loop .inv .0) (c .before .before .is-empty .ensures) (c .before .if1 .taken) (c .lowest .ensures)
 
 -- whether the turn's job has exactly one
-has-one : (c : tie.After-is-one Inv-loop μ-loop) → one-taker (c .before .before .before .before .before .before .before .args .takers .now) (c .before .before .before .before .before .before .before .args .subset) (c .before .before .before .lowest .result) ≡ c .is-one .result
-has-one c = rw (← (c .before .intersection .ensures)) (sym (c .is-one .ensures))
+has-one : (c : tie.After-is-one Inv-loop μ-loop) → one-taker (takersIn (c .before .before .before .before .before .before .before .args .tables .now)) (c .before .before .before .before .before .before .before .args .subset) (c .before .before .before .lowest .result) ≡ c .is-one .result
+has-one c =
+    rw (taker-set (c .before .before .before .before .before .before .before .args .tables .now) (c .before .before .before .lowest .result) (turned (c .before .before .before) .below-64), ← (c .before .intersection .ensures))
+    (sym (c .is-one .ensures))
 
 -- the turn's job, and those after it
 split : (c : tie.After-is-one Inv-loop μ-loop)
-    → (c .is-one .result && all (one-taker (c .before .before .before .before .before .before .before .args .takers .now) (c .before .before .before .before .before .before .before .args .subset)) (members (without (c .before .before .before .before .before .before .loop .rest) (c .before .before .before .lowest .result))))
-    ≡ all (one-taker (c .before .before .before .before .before .before .before .args .takers .now) (c .before .before .before .before .before .before .before .args .subset)) (members (c .before .before .before .before .before .before .loop .rest))
+    → (c .is-one .result && all (one-taker (takersIn (c .before .before .before .before .before .before .before .args .tables .now)) (c .before .before .before .before .before .before .before .args .subset)) (members (without (c .before .before .before .before .before .before .loop .rest) (c .before .before .before .lowest .result))))
+    ≡ all (one-taker (takersIn (c .before .before .before .before .before .before .before .args .tables .now)) (c .before .before .before .before .before .before .before .args .subset)) (members (c .before .before .before .before .before .before .loop .rest))
 unfolding all
 split c = rw (turned (c .before .before .before) .first, has-one c)
 
@@ -53,11 +56,14 @@ lowest-requires c κs = tt
 cast-i : tie.Need-cast-i Inv-loop μ-loop
 cast-i c = search needs
 
-mul-t10 : tie.Need-mul-t10 Inv-loop μ-loop
-mul-t10 c = omega (arith, turned c .below-64)
+add-t10 : tie.Need-add-t10 Inv-loop μ-loop
+add-t10 c = omega (arith, turned c .below-64)
 
-element-copy-out-t13 : tie.Need-element-copy-out-t13 Inv-loop μ-loop
-element-copy-out-t13 c = omega (arith, turned c .below-64)
+mul-t11 : tie.Need-mul-t11 Inv-loop μ-loop
+mul-t11 c = omega (arith, turned c .below-64)
+
+element-copy-out-t14 : tie.Need-element-copy-out-t14 Inv-loop μ-loop
+element-copy-out-t14 c = omega (arith, turned c .below-64)
 
 intersection-requires : tie.Need-intersection-requires Inv-loop μ-loop
 intersection-requires c κs = tt
@@ -81,7 +87,7 @@ returns-2 : tie.Need-returns-2 Inv-loop μ-loop
 unfolding all
 returns-2 c =
     let l = c .before .before .loop in
-    sym (ap (all (one-taker (c .before .before .before .args .takers .now) (c .before .before .before .args .subset))) (end (l .rest) (c .before .is-empty .result) (c .before .is-empty .ensures) (c .if1 .left) .no-members)) ∙ l .inv .1
+    sym (ap (all (one-taker (takersIn (c .before .before .before .args .tables .now)) (c .before .before .before .args .subset))) (end (l .rest) (c .before .is-empty .result) (c .before .is-empty .ensures) (c .if1 .left) .no-members)) ∙ l .inv .1
 
 pub is-exact-spec : {M : Type 1} → statement M
 is-exact-spec =
@@ -93,8 +99,9 @@ is-exact-spec =
     is-empty-requires
     lowest-requires
     cast-i
-    mul-t10
-    element-copy-out-t13
+    add-t10
+    mul-t11
+    element-copy-out-t14
     intersection-requires
     is-one-requires
     returns

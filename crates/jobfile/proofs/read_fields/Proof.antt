@@ -5,17 +5,18 @@ use native.Mathlib.Omega.{arith}
 use borrow.Author.Needs.{needs}
 use lib.ListN.{length}
 use Rattle.jobfile.specs.declared.FieldAnswer.the-variants.{Field}
+use Rattle.jobset.specs.Arrays.{giversIn, takersIn}
 use Rattle.jobfile.specs.Reading.{fieldAt, refusalOf}
 use Rattle.jobfile.specs.FieldByField.{start-read, end-same, field-same-no, value-same-no, value-read, ReadTo, stands, value-is, bounds}
 use Rattle.jobfile.proofs.read_fields.Statement.{statement}
 use Rattle.jobfile.proofs.read_fields.Tie as tie
 
 abbrev Inv-loop : tie.InvT-loop
-Inv-loop file offsets₀ givers₀ takers₀ c₀ at₀ offsets givers takers c at =
-    ReadTo file c offsets givers takers at
+Inv-loop file offsets₀ tables₀ c₀ at₀ offsets tables c at =
+    ReadTo file c offsets (giversIn tables) (takersIn tables) at × (length tables ≡ length tables₀)
 
 abbrev μ-loop : tie.MeasureT-loop
-μ-loop file offsets₀ givers₀ takers₀ c₀ at₀ offsets givers takers c at =
+μ-loop file offsets₀ tables₀ c₀ at₀ offsets tables c at =
     length file - at
 
 found : (c : tie.After-known-told Inv-loop μ-loop) → fieldAt (c .before .before .before .before .before .before .before .args .file .now) (c .before .before .before .before .before .loop .at) (c .before .before .before .before .before .loop .c .fields) ≡ Field (c .before .f .given .0 .0) (c .before .f .given .0 .1 .0) (c .before .f .given .0 .1 .1 .0)
@@ -26,7 +27,7 @@ lies c = bounds _ _ _ _ _ (stands _ _ _ _ _ _ (found c))
 
 loop-holds : tie.Need-loop-holds Inv-loop μ-loop
 loop-holds c =
-    start-read _ _ _ _ _ refl refl (c .before .pre .1)
+    (start-read _ _ _ _ _ refl refl (c .before .pre .1), refl)
 
 field-at-requires : tie.Need-field-at-requires Inv-loop μ-loop
 field-at-requires c κs =
@@ -50,7 +51,7 @@ refused-requires c κs =
 
 returns : tie.Need-returns Inv-loop μ-loop
 returns c =
-    field-same-no _ _ _ _ _ _ (c .before .before .before .before .before .before .loop .inv) _ _ _ _ (c .before .before .before .before .before .loop-test .taken) _ (sym (c .before .before .before .before .field-at .ensures) ∙ c .before .before .enum-told .given .1) (c .refused .ensures ∙ c .before .refusal-of .ensures ∙ ap refusalOf (c .before .before .enum-told .given .1))
+    (field-same-no _ _ _ _ _ _ (c .before .before .before .before .before .before .loop .inv .0) _ _ _ _ (c .before .before .before .before .before .loop-test .taken) _ (sym (c .before .before .before .before .field-at .ensures) ∙ c .before .before .enum-told .given .1) (c .refused .ensures ∙ c .before .refusal-of .ensures ∙ ap refusalOf (c .before .before .enum-told .given .1)), c .before .before .before .before .before .before .loop .inv .1)
 
 sub-take-field : tie.Need-sub-take-field Inv-loop μ-loop
 sub-take-field c =
@@ -66,23 +67,23 @@ part-take-field-end c =
 
 take-field-requires : tie.Need-take-field-requires Inv-loop μ-loop
 take-field-requires c κs =
-    let w = stands _ _ _ _ _ _ (found (c .before .before .before .before)) in let r = c .before .before .before .before .before .before .before .before .before .loop .inv in let p = c .before .before .before .before .before .before .before .before .before .before .before .pre .0 in let l = c .before .before .before .before .before .before .before .before .loop-test .taken in (r .well, omega (arith, r .counted), r .held .few, omega arith, rw (w .tag-is, value-is _ _ _ _ _ w) (w .length-ok))
+    let w = stands _ _ _ _ _ _ (found (c .before .before .before)) in let r = c .before .before .before .before .before .before .before .before .loop .inv .0 in let p = c .before .before .before .before .before .before .before .before .before .before .pre .0 in let l = c .before .before .before .before .before .before .before .loop-test .taken in (r .well, omega (arith, r .counted), r .held .few, omega arith, rw (w .tag-is, value-is _ _ _ _ _ w) (w .length-ok))
 
 returns-2 : tie.Need-returns-2 Inv-loop μ-loop
 returns-2 c =
-    value-same-no _ _ _ _ _ _ (c .before .before .before .before .before .before .before .before .before .before .before .before .loop .inv) _ _ _ _ (c .before .before .before .before .before .before .before .before .before .before .before .loop-test .taken) _ _ _ (found (c .before .before .before .before .before .before .before)) (c .before .before .take-field .ensures) (c .if1 .taken)
+    (value-same-no _ _ _ _ _ _ (c .before .before .before .before .before .before .before .before .before .before .before .loop .inv .0) _ _ _ _ (c .before .before .before .before .before .before .before .before .before .before .loop-test .taken) _ _ _ (found (c .before .before .before .before .before .before)) (c .before .before .take-field .ensures .0) (c .if1 .taken), c .before .before .take-field .ensures .1 ∙ c .before .before .before .before .before .before .before .before .before .before .before .loop .inv .1)
 
 loop-less : tie.Need-loop-less Inv-loop μ-loop
 loop-less c =
-    let l = lies (c .before .before .before .before .before .before .before) in omega (arith, c .before .before .before .before .before .before .before .before .before .before .before .loop-test .taken)
+    let l = lies (c .before .before .before .before .before .before) in omega (arith, c .before .before .before .before .before .before .before .before .before .before .loop-test .taken)
 
 loop-again : tie.Need-loop-again Inv-loop μ-loop
 loop-again c =
-    value-read _ _ _ _ _ _ (c .before .before .before .before .before .before .before .before .before .before .before .before .loop .inv) _ _ _ _ (c .before .before .before .before .before .before .before .before .before .before .before .loop-test .taken) _ _ _ (found (c .before .before .before .before .before .before .before)) (c .before .before .take-field .ensures) (c .if1 .left)
+    (value-read _ _ _ _ _ _ (c .before .before .before .before .before .before .before .before .before .before .before .loop .inv .0) _ _ _ _ (c .before .before .before .before .before .before .before .before .before .before .loop-test .taken) _ _ _ (found (c .before .before .before .before .before .before)) (c .before .before .take-field .ensures .0) (c .if1 .left), c .before .before .take-field .ensures .1 ∙ c .before .before .before .before .before .before .before .before .before .before .before .loop .inv .1)
 
 returns-3 : tie.Need-returns-3 Inv-loop μ-loop
 returns-3 c =
-    end-same _ _ _ _ _ _ (c .before .loop .inv) (c .loop-test .left)
+    (end-same _ _ _ _ _ _ (c .before .loop .inv .0) (c .loop-test .left), c .before .loop .inv .1)
 
 pub read-fields-spec : {M : Type 1} → statement M
 read-fields-spec =

@@ -32,8 +32,8 @@ mul-t8 : tie.Need-mul-t8 Inv-loop μ-loop
 mul-t8 c =
     search needs
 
-element-copy-out-t11 : tie.Need-element-copy-out-t11 Inv-loop μ-loop
-element-copy-out-t11 c =
+shared-slice-read-t10 : tie.Need-shared-slice-read-t10 Inv-loop μ-loop
+shared-slice-read-t10 c =
     search needs
 
 givers-kept-requires : tie.Need-givers-kept-requires Inv-loop μ-loop
@@ -69,7 +69,7 @@ needs-kept-spec =
     loop-holds
     sub-t6
     mul-t8
-    element-copy-out-t11
+    shared-slice-read-t10
     givers-kept-requires
     returns
     add-taker

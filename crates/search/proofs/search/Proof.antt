@@ -9,7 +9,7 @@ use mathlib.Core.List.{List}
 use Prim.Native.Nat.{ℕ, _+_, _-_, _*_, _/_, _≤_}
 use lib.ListN.{length, replicate}
 use Rattle.jobset.specs.Sets.{empty}
-use Rattle.explore.specs.Slot.{Tables, tables}
+use Rattle.explore.specs.Slot.{Tables, tablesIn}
 use Rattle.explore.specs.Model.{Plan, written, explored, noPlan}
 use Rattle.explore.specs.Codes.{Narrow}
 use Rattle.explore.specs.Steps.{no-sets}
@@ -21,21 +21,21 @@ use Rattle.search.proofs.search.Statement.{statement}
 use Rattle.search.proofs.search.Tie as tie
 
 abbrev Inv-loop : tie.InvT-loop
-Inv-loop givers takers released followed least limit dead₀ path₀ next₀ dead path next =
+Inv-loop sets least limit dead₀ path₀ next₀ dead path next =
     (length dead ≡ length dead₀) × (path ≡ replicate 64 0)
-    × (shortest (tables givers takers released followed) (limit + 1 - next) next ≡ shortest (tables givers takers released followed) (limit + 1 - least) least)
+    × (shortest (tablesIn sets) (limit + 1 - next) next ≡ shortest (tablesIn sets) (limit + 1 - least) least)
 
 abbrev μ-loop : tie.MeasureT-loop
-μ-loop givers takers released followed least limit dead₀ path₀ next₀ dead path next = limit + 1 - next
+μ-loop sets least limit dead₀ path₀ next₀ dead path next = limit + 1 - next
 
 abbrev T : tie.Start Inv-loop μ-loop → Tables
-T s = tables (s .args .givers .now) (s .args .takers .now) (s .args .released .now) (s .args .followed .now)
+T s = tablesIn (s .args .tables .now)
 
 -- the tables serve each length
-fit : (c : tie.In-loop Inv-loop μ-loop) → WellFormed (c .before .before .before .args .released .now) (c .before .before .before .args .followed .now) (c .before .loop .next)
+fit : (c : tie.In-loop Inv-loop μ-loop) → WellFormed (T (c .before .before .before) .released) (T (c .before .before .before) .followed) (c .before .loop .next)
 fit c =
-    let a = c .before .before .before .args in
-    shorter (a .released .now) (a .followed .now) (a .limit) (c .before .loop .next) (c .loop-test .taken) (c .before .before .before .pre .2)
+    let s = c .before .before .before in
+    shorter (T s .released) (T s .followed) (s .args .limit) (c .before .loop .next) (c .loop-test .taken) (s .pre .2)
 
 -- the search of a length gives its plan
 plan-is : (c : tie.After-clear Inv-loop μ-loop) → explored (T (c .before .before .before .before .before)) (c .before .before .before .loop .next) 0 empty empty (c .clear .last .0) .plan ≡ planOf (T (c .before .before .before .before .before)) (c .before .before .before .loop .next)
@@ -65,20 +65,20 @@ clear-requires c κs = omega (arith, c .before .before .before .before .pre .0, 
 explore-requires : tie.Need-explore-requires Inv-loop μ-loop
 explore-requires c κs =
     let l = c .before .before .before .before .before .before .before .loop in
-    let a = c .before .before .before .before .before .before .before .before .before .args in
-    let p = c .before .before .before .before .before .before .before .before .before .pre in
+    let s = c .before .before .before .before .before .before .before .before .before in
+    let p = s .pre in
     let h = c .before .before .before .before .before .before .loop-test .taken in
     let k : length (c .before .before .before .before .clear .last .0) ≡ length (l .dead) = c .before .before .before .before .clear .kept .0 in (
       rw (k, l .inv .0) (p .0),
       omega (arith, p .1),
-      subst (Narrow (a .released .now) (a .followed .now)) (sym (add-zero (l .next))) (fit (c .before .before .before .before .before .before) .narrow),
+      subst (Narrow (T s .released) (T s .followed)) (sym (add-zero (l .next))) (fit (c .before .before .before .before .before .before) .narrow),
     )
 
 starts-to-requires : tie.Need-starts-to-requires Inv-loop μ-loop
 starts-to-requires c κs = omega (arith, c .before .before .before .before .before .before .before .before .before .before .before .loop-test .taken, c .before .before .before .before .before .before .before .before .before .before .before .before .before .before .pre .1)
 
 same-length : tie.Need-same-length Inv-loop μ-loop
-same-length c = c .before .before .before .before .before .explore .kept .1 .1 .0 ∙ c .before .before .before .before .before .before .before .before .before .before .clear .kept .0 ∙ c .before .before .before .before .before .before .before .before .before .before .before .before .before .loop .inv .0
+same-length c = c .before .before .before .before .before .explore .kept .1 .0 ∙ c .before .before .before .before .before .before .before .before .before .before .clear .kept .0 ∙ c .before .before .before .before .before .before .before .before .before .before .before .before .before .loop .inv .0
 
 -- the length has a plan
 returns : tie.Need-returns Inv-loop μ-loop
@@ -110,7 +110,7 @@ loop-again c =
     let f : explored (T s) (l .next) 0 empty empty (c .before .before .before .before .before .before .before .before .clear .last .0) .plan ≡ noPlan = no-sets (T s) (l .next) 0 empty empty (c .before .before .before .before .before .before .before .before .clear .last .0) (sym (q .0) ∙ c .if1 .left) in
     let o : planOf (T s) (l .next) .ok ≡ false = ap (λ (x : Plan). x .ok) (sym e ∙ f) in
     let m : s .args .limit + 1 - (l .next + 1) ≡ s .args .limit + 1 - l .next - 1 = omega arith in (
-      c .before .before .before .explore .kept .1 .1 .0 ∙ c .before .before .before .before .before .before .before .before .clear .kept .0 ∙ l .inv .0,
+      c .before .before .before .explore .kept .1 .0 ∙ c .before .before .before .before .before .before .before .before .clear .kept .0 ∙ l .inv .0,
       q .1 .0 ∙ ap (λ (x : Plan). written 0 (x .sets) (l .path)) f ∙ l .inv .1,
       ap (λ (k : ℕ). shortest (T s) k (l .next + 1)) m ∙ sym (shortest-next (T s) (s .args .limit + 1 - l .next) (l .next) (omega arith) o) ∙ l .inv .2,
     )

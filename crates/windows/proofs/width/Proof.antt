@@ -39,20 +39,20 @@ loop-holds c = (omega arith, omega arith, refl)
 mul-t10 : tie.Need-mul-t10 Inv-loop μ-loop
 mul-t10 c = omega arith
 
-element-copy-out-t13 : tie.Need-element-copy-out-t13 Inv-loop μ-loop
-element-copy-out-t13 c = omega arith
+shared-slice-read-t12 : tie.Need-shared-slice-read-t12 Inv-loop μ-loop
+shared-slice-read-t12 c = omega arith
 
 add-t10 : tie.Need-add-t10 Inv-loop μ-loop
 add-t10 c = omega arith
 
-sub-t14 : tie.Need-sub-t14 Inv-loop μ-loop
-sub-t14 c = omega arith
+sub-t13 : tie.Need-sub-t13 Inv-loop μ-loop
+sub-t13 c = omega arith
 
-mul-t15 : tie.Need-mul-t15 Inv-loop μ-loop
-mul-t15 c = omega arith
+mul-t14 : tie.Need-mul-t14 Inv-loop μ-loop
+mul-t14 c = omega arith
 
-element-copy-out-t13-2 : tie.Need-element-copy-out-t13-2 Inv-loop μ-loop
-element-copy-out-t13-2 c = omega arith
+shared-slice-read-t12-2 : tie.Need-shared-slice-read-t12-2 Inv-loop μ-loop
+shared-slice-read-t12-2 c = omega arith
 
 minus-requires : tie.Need-minus-requires Inv-loop μ-loop
 minus-requires c κs = tt
@@ -75,7 +75,7 @@ loop-less c = omega arith
 loop-again : tie.Need-loop-again Inv-loop μ-loop
 loop-again c =
     let l = c .before .before .before .before .before .before .loop in
-    let a = c .before .before .before .before .before .before .before .args in
+    let a = c .before .before .before .before .before .before .before .before .before .args in
     let e : c .before .size .result ≡ length (members (c .before .before .minus .result)) = c .before .size .ensures ∙ size-members (c .before .before .minus .result) (search needs) in
     (omega arith, omega arith, rw (c .greater .ensures, e, c .before .before .minus .ensures, l .inv .2) (next (a .released .now) (a .followed .now) (a .limit) (l .slot) (l .inv .0) (omega arith)))
 
@@ -83,7 +83,7 @@ returns : tie.Need-returns Inv-loop μ-loop
 unfolding widest widthIn
 returns c =
     let l = c .before .loop in
-    let a = c .before .before .args in
+    let a = c .before .before .before .before .args in
     let e : l .slot - 1 ≡ a .limit = omega arith in
     l .inv .2 ∙ ap (widest (a .released .now) (a .followed .now) (a .limit)) e
 
@@ -95,11 +95,11 @@ width-spec =
     μ-loop
     loop-holds
     mul-t10
-    element-copy-out-t13
+    shared-slice-read-t12
     add-t10
-    sub-t14
-    mul-t15
-    element-copy-out-t13-2
+    sub-t13
+    mul-t14
+    shared-slice-read-t12-2
     minus-requires
     size-requires
     cast-greater

@@ -41,9 +41,9 @@ use Rattle.boards.proofs.with_start as with-start
 use Rattle.boards.proofs.place_columns as place
 use Rattle.boards.proofs.record_of as record-of
 
--- the array behind `givers`
+-- the array behind `tables`
 abbrev pub Sets : RattleType
-Sets = Array u64 64
+Sets = Array u64 260
 
 module _ {M : Type 1} (𝓤 : URA M) (H : Heap 𝓤) (A : Atoms 𝓤) (mem : Memory → SProp 𝓤) (run : Routine → Fun 𝓤) where
   -- the contracts that the proof cites
@@ -94,7 +94,7 @@ module _ {M : Type 1} (𝓤 : URA M) (H : Heap 𝓤) (A : Atoms 𝓤) (W : Given
     pub got-record-of : (i : ℕ) (y : JobRecord) → ent 𝓤 (ensured 𝓤 H A record-of.ended (record-of.clauses 𝓤 H A mem run) tt (c, (i, tt)) tt y) (fact 𝓤 (y ≡ recordOf c i))
     got-record-of i y = exE 𝓤 _ (λ ws. snd∗ 𝓤 (sem 𝓤 H A (lasts record-of.ended tt (c, (i, tt)) ws)) (fact 𝓤 (y ≡ recordOf c i)))
 
-    -- `givers` goes to the callee at its own lifetime, whose token comes back
+    -- `tables` goes to the callee at its own lifetime, whose token comes back
     module _ (κ : Lft) (q : Share) (g : RefT (List ℕ)) (n slots : ℕ) where
       abbrev pub to-place : Place 𝓤 H A mem run .Ghost
       to-place = (((κ, tt), (q, tt), tt, (c, (g, (n, (slots, tt)))), (v ∷ [], (ptr-vals g, (vint w64 n ∷ [], (vint w64 slots ∷ [], tt))))), tt)

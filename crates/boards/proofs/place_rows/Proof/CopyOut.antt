@@ -128,13 +128,13 @@ module _ {M : Type 1} (𝓤 : URA M) (H : Heap 𝓤) (A : Atoms 𝓤) (W : Given
       exec ! (𝓣 .C) (𝓣 .Λ) E mir′.t-4 (atRet E Q) $ forget ! 13 refl $ forget ! 15 refl $
       move ! (33 ∷ []) $ use1 W (‵ (Own p) ⊛ ‵ (Own p)) (shr-copy 𝓤 H A W (named 1) κ′ Sets .twice g (ptr-vals g)) $ split ! $ move ! (34 ∷ 0 ∷ []) $
       use2 W (raw (Place 𝓤 H A mem run .pre (to-place 𝓤 H A W mem run (k .c) (k .v) (k .is) κ′ q′ g (k .i) slots))) (goes-place 𝓤 H A W mem run (k .c) (k .v) (k .is) κ′ q′ g (k .i) slots startable) $
-      -- [what the callee asks; what givers owns; the row; _13; …]
+      -- [what the callee asks; what tables owns; the row; _13; …]
       calls-at ! (fmOf 𝓤 H (W .laws) 𝓣) (Place 𝓤 H A mem run) known-place (to-place 𝓤 H A W mem run (k .c) (k .v) (k .is) κ′ q′ g (k .i) slots)
       (and-then ! (load ! (from ! (stop !)) (look ! 21 refl)) (and-then ! (load ! (from ! (stop !)) (look ! 25 refl)) (and-then ! (load ! (from ! (stop !)) (look ! 19 refl)) (and-then ! (load ! (from ! (stop !)) (look ! 23 refl)) (no-more !))))) (λ w.
       use1 W (later (some (λ (t : Columns). ((‵ (flft κ′ q′) ⊛ ‵ ftrue) ⊛ ‵ (U.the-row .own t (w ∷ []))) ⊛ raw (ensured 𝓤 H A place.ended (place.clauses 𝓤 H A mem run) (κ′, tt) (k .c, (g, (k .i, (slots, tt)))) tt t)))) (id⊢ 𝓤 _) $ await ! tt $ pick ! (λ t.
       split ! $ move ! (1 ∷ []) $ use1 W (raw (fact 𝓤 (t ≡ placeColumns (k .c) (g .now) (k .i) slots))) (got-place 𝓤 H A W mem run (k .c) (k .v) (k .is) κ′ q′ g (k .i) slots t) $ heard ! (t ≡ placeColumns (k .c) (g .now) (k .i) slots) (λ e₁. split ! $ move ! (1 ∷ []) $
       peeks ! U.the-row (Is U.the-row) (shows 𝓤 H A U.the-row) t (w ∷ []) (λ ist.
-      -- [the result; the token; what givers owns; the row; _13; …]
+      -- [the result; the token; what tables owns; the row; _13; …]
       land ! (from ! (stop !)) (store ! 22 refl (LL.lawful U.the-type U′.the-laws 𝓤 H A W .typed t _ ist .0)) $ drop ! $
       assigns ! (of-opd ! (lit ! tt)) (from ! (stop !)) (store ! 19 refl (tt, record { fits = lit< tt })) $
       rewrite ! 2 (λ (l : List JobRecord). ‵ (row T.the-row fullShare l b o)) (sym (stored-none t ys)) refl $

@@ -64,7 +64,7 @@ slice = spell mir′.table (sliceTy (tyRef (named 0) mut (pointee (T.the-row .wr
 abbrev pub sets : Ty
 sets = spell mir′.table (tyRef (named 1) imm (pointee (Sets .written)))
 
--- what the function is passed: the row ys behind (b, o), givers g and slots, with what is required of them
+-- what the function is passed: the row ys behind (b, o), tables g and slots, with what is required of them
 pub record Setting : Type 0 where
   pub κ : Lft
   pub q : Share
@@ -98,7 +98,7 @@ pub record Locals : Type 0 where
   pub l₁₃ : ℕ
 
 abbrev pub stayed : Stays (pr.ended .signature .params) (pr.ended .kept)
-stayed = (stay-slice (0 ∷ []) tt (plain (λ _. T.the-row)), (stay-none-ref (1 ∷ []) tt (arrayOf (plain (λ _. u64)) 64) kept, (stay-none (λ _. usize) kept, tt)))
+stayed = (stay-slice (0 ∷ []) tt (plain (λ _. T.the-row)), (stay-none-ref (1 ∷ []) tt (arrayOf (plain (λ _. u64)) 260) kept, (stay-none (λ _. usize) kept, tt)))
 
 module _ (p : Setting) where
   open Setting p using (κ, q, κ′, q′, b, o, γ, ys, g, slots, room, slots-fits, ok)
@@ -121,7 +121,7 @@ module _ (p : Setting) where
   abbrev pub vals : List Val × (List Val × (List Val × Unit {0}))
   vals = (s ∷ [], (pg ∷ [], (vint w64 slots ∷ [], tt)))
 
-  -- what givers owns
+  -- what tables owns
   abbrev pub Own : Fml
   Own = ShrRef (named 1) κ′ Sets .own g (ptr-vals g)
 

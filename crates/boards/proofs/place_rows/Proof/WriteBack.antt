@@ -118,7 +118,7 @@ module _ {M : Type 1} (𝓤 : URA M) (H : Heap 𝓤) (A : Atoms 𝓤) (W : Given
       exec ! (𝓣 .C) (𝓣 .Λ) E mir′.t-7 (atRet E Q) $
       rewrite ! 0 (λ (k : ℕ). ‵ (row T.the-row fullShare (zs k) b o)) (le-antisymm (i .1) over) refl $
       move ! (0 ∷ 29 ∷ 30 ∷ 31 ∷ []) $ closes-slice ! tt T.the-row ys (zs (length ys)) (length-stored c (length ys) ys) b o $
-      -- [obs; the borrow; the token; _13; …; the other token; what givers owns]
+      -- [obs; the borrow; the token; _13; …; the other token; what tables owns]
       rewrite ! 21 (λ (u : Val). ‵ (fat fullShare arrays l₄ 0 u)) spelled refl $
       assigns ! (of-opd ! (load ! (from ! (fld ! refl (stop !))) (look-in ! 21 (sub ! 0 refl (whole !))))) (from ! (stop !)) (init ! 29 refl (tt, typed .1 .0)) $
       returns ! (look ! 29 refl) $ forget ! 7 refl $ forget ! 9 refl $ forget ! 19 refl $ forget ! 21 refl $ forget ! 23 refl $ forget ! 25 refl $ forget ! 27 refl $ forget ! 29 refl $

@@ -1,12 +1,12 @@
--- `windows::longest` meets its contract. The number is the greatest span of the jobs below the loop's index. Assumes nothing.
+-- `windows::least` meets its contract. The number is the greatest span of the jobs below the loop's index. Assumes nothing.
 use mathlib.Core.Path.{_≡_, refl, ap, _∙_}
 use Prim.Native.Nat.{_-_, _≤_}
 use native.Mathlib.Numerals.{add-one}
 use native.Mathlib.Omega.{arith}
 use Rattle.rules.specs.Basics.{most}
 use Rattle.windows.specs.Windows.{longestOf}
-use Rattle.windows.proofs.longest.Statement.{statement}
-use Rattle.windows.proofs.longest.Tie as tie
+use Rattle.windows.proofs.least.Statement.{statement}
+use Rattle.windows.proofs.least.Tie as tie
 
 abbrev Inv-loop : tie.InvT-loop
 Inv-loop release tail jobs most₀ i₀ most i = (i ≤ jobs) × (most ≡ longestOf release tail i)
@@ -55,8 +55,8 @@ returns c =
     let e : l .i ≡ a .jobs = omega arith in
     l .inv .1 ∙ ap (longestOf (a .release .now) (a .tail .now)) e
 
-pub longest-spec : {M : Type 1} → statement M
-longest-spec =
+pub least-spec : {M : Type 1} → statement M
+least-spec =
     tie.close
     (tie.spec
     Inv-loop

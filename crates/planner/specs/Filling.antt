@@ -1,0 +1,53 @@
+-- The windows written into the one array of tables: the needs before them stay, and each part holds what was written. Assumes nothing.
+use mathlib.Core.Path.{_≡_, refl, ap, _∙_}
+use mathlib.Core.List.{List, [], _∷_, _++_}
+use Prim.Native.Nat.{ℕ, zero, suc, _+_, _≤_}
+use native.Mathlib.Omega.{arith}
+use lib.ListN.{length, take, drop, length-append, length-take, length-drop}
+use lib.Seq.{take-append-le, take-at, drop-at, length-take-le, take-take}
+use Rattle.rules.specs.Basics.{tabulate}
+use Rattle.jobset.specs.declared.Set.{Set}
+use Rattle.jobset.specs.Arrays.{giversIn, takersIn}
+use Rattle.windows.specs.Windows.{table, lowerJobs, higherJobs}
+use Rattle.planner.specs.Planner.{Filled}
+
+-- the list with the part of k elements behind the first m replaced
+abbrev pub withPart : ℕ → ℕ → List ℕ → List ℕ → List ℕ
+withPart m k part l = take m l ++ (part ++ drop k (drop m l))
+
+-- the part is what was put there
+part-put : (m k : ℕ) (part l : List ℕ) → m ≤ length l → length part ≡ k → take k (drop m (withPart m k part l)) ≡ part
+part-put m k part l h e =
+    ap (take k) (drop-at (take m l) (part ++ drop k (drop m l)) m (length-take-le m l h)) ∙ take-at part (drop k (drop m l)) k e
+
+-- a part before it stays
+part-before : (m k p : ℕ) (l rest : List ℕ) → m + k ≤ p → p ≤ length l → take k (drop m (take p l ++ rest)) ≡ take k (drop m l)
+part-before zero k p l rest h b = take-append-le k (take p l) rest (omega (arith, length-take-le p l b)) ∙ take-take k p l (omega arith)
+part-before (suc m) k zero l rest h b = absurd (omega arith)
+part-before (suc m) k (suc p) [] rest h b = absurd (omega arith)
+part-before (suc m) k (suc p) (x ∷ l) rest h b = part-before m k p l rest (omega arith) (omega arith)
+
+-- the list is as long as before
+pub length-with : (m k : ℕ) (part l : List ℕ) → m + k ≤ length l → length part ≡ k → length (withPart m k part l) ≡ length l
+length-with m k part l h e = simp (length-append, length-take, length-drop) (omega arith)
+
+-- the windows have 66 sets
+pub length-table : (f : ℕ → Set) → length (table f) ≡ 66
+unfolding table tabulate
+length-table f = refl
+
+-- first those by releases, then those by tails
+pub filled : (n : ℕ) (sets released followed release tail : List ℕ) → length sets ≡ 260 → released ≡ table (lowerJobs release n) → followed ≡ table (higherJobs tail n)
+    → Filled n (giversIn sets) (takersIn sets) release tail (withPart 194 66 followed (withPart 128 66 released sets))
+filled n sets released followed release tail e r f = record {
+  givers-kept = part-before 0 64 194 once _ (omega arith) (omega (arith, long)) ∙ part-before 0 64 128 sets _ (omega arith) (omega (arith, e));
+  takers-kept = part-before 64 64 194 once _ (omega arith) (omega (arith, long)) ∙ part-before 64 64 128 sets _ (omega arith) (omega (arith, e));
+  released-made = part-before 128 66 194 once _ (omega arith) (omega (arith, long)) ∙ part-put 128 66 released sets (omega (arith, e)) (ap length r ∙ length-table (lowerJobs release n)) ∙ r;
+  followed-made = part-put 194 66 followed once (omega (arith, long)) (ap length f ∙ length-table (higherJobs tail n)) ∙ f;
+}
+  where
+    once : List ℕ
+    once = withPart 128 66 released sets
+
+    long : length once ≡ 260
+    long = length-with 128 66 released sets (omega (arith, e)) (ap length r ∙ length-table (lowerJobs release n)) ∙ e
