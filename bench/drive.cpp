@@ -21,6 +21,8 @@
 
 extern "C" Found product_search(const Tables *tables, size_t least, size_t limit, uint8_t *dead, size_t dead_len);
 
+static_assert(sizeof(Tables) == 260 * sizeof(uint64_t), "the product takes the tables as one array");
+
 namespace {
 
 const size_t STACK = 1 << 18;
@@ -39,9 +41,7 @@ struct Calls {
 
     void whole() { answer = gate_plan(file.data(), file.size(), work, sizeof work, table, sizeof table); }
     void other_whole() { other_answer = baseline_plan(file.data(), file.size(), work, sizeof work, other_table, sizeof other_table); }
-    void search() {
-        new (&found) Found(product_search(&jobs.t, jobs.least, jobs.limit, work, sizeof work));
-    }
+    void search() { new (&found) Found(product_search(&jobs.t, jobs.least, jobs.limit, work, sizeof work)); }
     void other_search() { baseline_search(&jobs.t, jobs.least, jobs.limit, work, &other_found); }
 };
 

@@ -13,7 +13,8 @@ import solvers
 
 COMPILERS = ("g++", "clang++")
 CAP = 10  # seconds by the clock for one run of a solver
-SHORT = 0.2  # CPU seconds: below, a run is one of five, in turns with the product's process, and the median counts
+SHORT = 0.2  # CPU seconds: below, a run is one of RUNS, and the least counts
+RUNS = 7
 
 
 def files(folder):
@@ -77,14 +78,11 @@ def process(folder, path):
 
 
 def timed(folder, path, name, problem):
-    """The solver's answer, its CPU seconds, and those of the product's process in turns with it."""
+    """The solver's answer, its CPU seconds, and those of the product's process right after it: each some times in a row, so that both
+    find their pages and caches as they left them."""
     answer, seconds = solvers.run(name, problem, CAP)
-    mine, others = [process(folder, path)], [seconds]
-    for _ in range(4):
-        mine.append(process(folder, path))
-        if seconds < SHORT:
-            others.append(solvers.run(name, problem, CAP)[1])
-    return answer, statistics.median(others), statistics.median(mine)
+    others = [seconds] + [solvers.run(name, problem, CAP)[1] for _ in range(RUNS - 1 if seconds < SHORT else 0)]
+    return answer, min(others), min(process(folder, path) for _ in range(RUNS))
 
 
 def frame(folder):
@@ -122,7 +120,7 @@ def solver_files(folder):
 def run_solvers(folder):
     """CPU seconds of each solver, start-up taken and whole, every answer compared: {"startup": {}, "runs": {file: {solver: [seconds, answered, product]}}}."""
     trivial = (1, [], 1)
-    startup = {name: sorted(solvers.run(name, trivial, CAP)[1] for _ in range(7))[3] for name in solvers.SOLVERS}
+    startup = {name: min(solvers.run(name, trivial, CAP)[1] for _ in range(RUNS)) for name in solvers.SOLVERS}
     runs = {}
     for path in solver_files(folder):
         problem = solvers.parse(open(path, "rb").read())

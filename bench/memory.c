@@ -1,4 +1,4 @@
-/* memset and memcpy for both sides, so that the counts do not hang on the C library's choice for one processor: 16-byte stores. */
+/* memset and memcpy for both sides, so that the counts do not hang on the C library's choice for one processor: 16-byte stores. once.c, which has no C library, uses them too. */
 #include <emmintrin.h>
 #include <stddef.h>
 #include <stdint.h>

@@ -4,6 +4,7 @@
 #include <cstdint>
 
 // Jobs are bits of a word: job i (from 0) is bit 63 - i. Arrays of words are indexed by bit.
+// The tables stand in the order of the product's array of 260 words.
 // released[s]: jobs with a release below s. followed[k]: jobs with a tail of at least k; followed[0] is all jobs.
 struct Tables {
     uint64_t givers[64], takers[64], released[66], followed[66];

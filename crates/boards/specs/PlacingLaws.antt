@@ -18,7 +18,7 @@ use Rattle.jobset.specs.declared.Set.{Set}
 use Rattle.jobset.specs.Sets.{setAt, empty}
 use Rattle.jobset.specs.Arrays.{GiversAre}
 use Rattle.boards.specs.declared.Placed.{Placed}
-use Rattle.boards.specs.Placing.{slotSets, placeSlot, placeSlots, placed, Startable}
+use Rattle.boards.specs.Placing.{slotSets, placeSlot, placeSlots, placed}
 use Rattle.boards.specs.ByPlace.{Places, places-same, places-none, Matches}
 use Rattle.boards.specs.Numbered.{numbered-is, count-is}
 use Rattle.boards.specs.SlotSets.{sets-are}

@@ -10,7 +10,7 @@ use lib.ListN.{length}
 use Rattle.rules.specs.Basics.{choose, at}
 use Rattle.rules.specs.Needs.{Need, Gives, NeedsIn}
 use Rattle.rules.specs.Program.{Kept}
-use Rattle.rules.specs.Boards.{sweep, giverBefore, lowestFree, Placing, choice, inheritIn, choiceIn, slotBoards}
+use Rattle.rules.specs.Boards.{sweep, giverBefore, lowestFree, Placing, firstFit, inheritIn, firstFitIn, slotBoards}
 use Rattle.laws.specs.Tests.{T-eqb, by-choice, choose-yes}
 use Rattle.jobset.specs.declared.Set.{Set}
 use Rattle.jobset.specs.Sets.{member, lowest, fallingFrom, falling}
@@ -28,30 +28,30 @@ module _ (n : ℕ) (few : n ≤ 64) (needs : List Need) (t : List ℕ) (s : ℕ)
     agree : Agree n z w
     room : length (fallingFrom (64 - x) others) ≤ length (falling (w .free))
 
-  second-done : (x : ℕ) (z : Placing) (w : Slot) → x < n → member others (63 - x) ≡ true → Second x z w → Second (suc x) (choiceIn needs t s x z) (takeLowest (63 - x) w)
-  unfolding choiceIn choice takeLowest takes
+  second-done : (x : ℕ) (z : Placing) (w : Slot) → x < n → member others (63 - x) ≡ true → Second x z w → Second (suc x) (firstFitIn needs t s x z) (takeLowest (63 - x) w)
+  unfolding firstFitIn firstFit takeLowest takes
   second-done x z w l m f =
       let e : 63 - (63 - x) ≡ x = omega arith in
       let o : Other needs t s x = rw e at (are .only (63 - x) m .1 .1) in
       let k : length (fallingFrom (64 - x) others) ≡ suc (length (fallingFrom (64 - suc x) others)) = falling-job x others (omega arith) m in
-      rw (choose-yes (eqb (at t x) s) (choice (giverBefore needs t x) x z) z (T-eqb (at t x) s .1 (o .0)), o .1) (record {
+      rw (choose-yes (eqb (at t x) s) (firstFit (giverBefore needs t x) x z) z (T-eqb (at t x) s .1 (o .0)), o .1) (record {
         agree = agree-give n x (lowest (w .free)) (lowestFree (length (z .0)) 1 (z .0)) z w l few (lowest-is (z .0) (w .free) (f .agree .free) (f .agree .small) (omega (arith, f .room))) (f .agree);
         room = omega (arith, f .room, falling-without (w .free) (lowest (w .free)));
       })
 
-  second-skip : (x : ℕ) (z : Placing) (w : Slot) → x < n → member others (63 - x) ≡ false → Second x z w → Second (suc x) (choiceIn needs t s x z) w
-  unfolding choiceIn choice
+  second-skip : (x : ℕ) (z : Placing) (w : Slot) → x < n → member others (63 - x) ≡ false → Second x z w → Second (suc x) (firstFitIn needs t s x z) w
+  unfolding firstFitIn firstFit
   second-skip x z w l m f = rw unchanged (record { agree = f .agree; room = omega (arith, f .room, falling-gap x others (omega arith) m) })
     where
-      unchanged : choose (eqb (at t x) s) (choice (giverBefore needs t x) x z) z ≡ z
+      unchanged : choose (eqb (at t x) s) (firstFit (giverBefore needs t x) x z) z ≡ z
       unchanged = by-choice (λ (y : Placing). y ≡ z) (eqb (at t x) s) (λ q. go (giverBefore needs t x) refl (T-eqb (at t x) s .0 q)) (λ q. refl)
         where
-          go : (o : Option ℕ) → giverBefore needs t x ≡ o → at t x ≡ s → choice o x z ≡ z
+          go : (o : Option ℕ) → giverBefore needs t x ≡ o → at t x ≡ s → firstFit o x z ≡ z
           go none e h = absurd (false≢true (sym m ∙ are .all x (omega arith) (l, (h, e))))
           go (some g) e h = refl
 
-  second-sweep : (z : Placing) (w : Slot) → Second 0 z w → Second n (sweep (choiceIn needs t s) n 0 z) (each takeLowest (falling others) w)
-  second-sweep = sweep-each Second (choiceIn needs t s) takeLowest others n few second-done second-skip (places-beyond others n (Other needs t s) are)
+  second-sweep : (z : Placing) (w : Slot) → Second 0 z w → Second n (sweep (firstFitIn needs t s) n 0 z) (each takeLowest (falling others) w)
+  second-sweep = sweep-each Second (firstFitIn needs t s) takeLowest others n few second-done second-skip (places-beyond others n (Other needs t s) are)
 
 -- the slot, where `last` has the jobs of the slot before and `jobs` those of the slot
 pub slot-matches : (n : ℕ) → n ≤ 64 → (needs : List Need) → NeedsIn n needs → (t : List ℕ) → Kept (Gives needs) (at t) → (givers : List ℕ) → GiversAre givers needs

@@ -14,7 +14,7 @@ use Rattle.rules.specs.JobFile.{withJob, withNeed, jobOf, isJob, addNeed, addFi
 use Rattle.rules.specs.Program.{slots, all₂, keptb}
 use Rattle.rules.specs.Windows.{latest, untied, releaseBy, releases, swap, holdsb, widthOf, width}
 use Rattle.rules.specs.Preference.{slotRow, slotRows, lexb, preferredb}
-use Rattle.rules.specs.Boards.{sweep, giverBefore, lowestFree, give, inherit, choice, inheritIn, choiceIn, slotBoards, boards}
+use Rattle.rules.specs.Boards.{sweep, giverBefore, lowestFree, give, inherit, firstFit, inheritIn, firstFitIn, slotBoards, boards}
 use Rattle.rules.specs.Table.{Table}
 use Rattle.rules.specs.Answers.{tableOf, tabled}
 use Rattle.laws.specs.Tests.{T-and}
@@ -28,7 +28,7 @@ use Rattle.dominance.specs.Count.{countUp}
 use Rattle.dominance.specs.Plan.{forced, tied, maximalSets, plan}
 use Rattle.cases.specs.Case.{Schedule, Case, jobField, jobFields, needFields, fileOf, chainFrom, schedule, scheduled, Each, WidthIs, AsShort, Holds}
 use Rattle.cases.specs.Searched.{bytesb, bytes-are, tableWith, searched, answered-is}
-use Rattle.cases.specs.Others.{fitsb, besideb, asShortIn, asShortb, as-short}
+use Rattle.cases.specs.Others.{fitsb, asShortAs, asShortIn, asShortb, as-short}
 
 -- ---- a case
 
@@ -82,12 +82,12 @@ searchQuestion = plan
 
 -- the table with its boards
 unfoldable pub tableRows : JobFile → List ℕ → Table
-unfolding tableOf boards slotBoards sweep inheritIn choiceIn inherit choice give giverBefore lowestFree has any slots largest centimetres tabulate choose
+unfolding tableOf boards slotBoards sweep inheritIn firstFitIn inherit firstFit give giverBefore lowestFree has any slots largest centimetres tabulate choose
 tableRows = tableOf
 
 -- the other start lists
 unfoldable pub otherLists : List ℕ → List ℕ → Bool
-unfolding asShortb asShortIn besideb fitsb keptb all₂ all imp preferredb lexb slotRows slotRow
+unfolding asShortb asShortIn asShortAs fitsb keptb all₂ all imp preferredb lexb slotRows slotRow
 otherLists = asShortb
 
 -- all of it

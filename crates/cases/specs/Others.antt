@@ -30,16 +30,16 @@ unfolding fitsb
 fits-are n limit t h = let w : (length t ≡ n) × (slots t ≤ limit) = simp tests at h in slots-fits n limit t (w .0) (w .1)
 
 -- u fits the limit, satisfies P, is as short as the table that a file with f gets, and is not preferred
-unfoldable pub besideb : JobFile → Answer Table → List ℕ → Bool
-besideb f (refused q) u = false
-besideb f (got r) u =
+unfoldable pub asShortAs : JobFile → Answer Table → List ℕ → Bool
+asShortAs f (refused q) u = false
+asShortAs f (got r) u =
     let n = length (f .jobs) in
     fitsb n (f .limit) (starts r) && (fitsb n (f .limit) u && (keptb (f .needs) u && (eqb (slots u) (r .slots) && not (preferredb (f .limit) u (starts r)))))
 
 -- the same of a reading, and of a file
 unfoldable pub asShortIn : Answer JobFile → List ℕ → Bool
 asShortIn (refused q) u = false
-asShortIn (got f) u = besideb f (searched f) u
+asShortIn (got f) u = asShortAs f (searched f) u
 
 unfoldable pub asShortb : List ℕ → List ℕ → Bool
 asShortb file u = asShortIn (readFile file) u
@@ -55,7 +55,7 @@ strictly n limit t u f g h = go (preferred-total n t u (f .len) (g .len))
 
 -- what that says
 pub as-short : (file u : List ℕ) → Bytes file → T (asShortb file u) → AsShort file u
-unfolding asShortb asShortIn besideb
+unfolding asShortb asShortIn asShortAs
 as-short file u b h = go (readFile file) refl h
   where
     go : (a : Answer JobFile) → readFile file ≡ a → T (asShortIn a u) → AsShort file u
@@ -68,7 +68,7 @@ as-short file u b h = go (readFile file) refl h
         ok : Readable f
         ok = readable file b f e
 
-        pick : (a : Answer Table) → planTable f ≡ a → T (besideb f a u) → AsShort file u
+        pick : (a : Answer Table) → planTable f ≡ a → T (asShortAs f a u) → AsShort file u
         pick (refused q) p h = absurd h
         pick (got r) p h = record {
           says = f;

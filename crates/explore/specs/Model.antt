@@ -34,7 +34,7 @@ unfoldable pub written : ℕ → List ℕ → List ℕ → List ℕ
 written slot [] path = path
 written slot (x ∷ xs) path = set (written (slot + 1) xs path) slot x
 
--- all jobs are done: those that need no slot behind them
+-- all jobs are done: those with a tail of at least 0
 unfoldable pub isDone : Tables → Set → Bool
 isDone T done = isSubset (dueAt T 0) done
 

@@ -6,14 +6,14 @@ use Prim.Native.Nat.{ℕ, _+_, _-_, _≤_, _<_}
 use native.Mathlib.Omega.{arith}
 use borrow.Author.Tests.{eq-eqb, ne-eqb}
 use lib.ListN.{set, take, drop}
-use lib.Seq.{take-set-lt, take-set-le, drop-set-lt, drop-set-add, getD-take}
+use lib.Seq.{take-set-lt, take-set-le, drop-set-lt, drop-set-add}
 use Rattle.rules.specs.Basics.{choose}
 use Rattle.rules.specs.Fields.{refused, got, ask}
 use Rattle.rules.specs.JobFile.{isJob}
 use Rattle.laws.specs.Tests.{tests, T-true}
 use Rattle.jobset.specs.Sets.{member, setAt, with}
 use Rattle.jobset.specs.declared.Set.{Set}
-use Rattle.jobset.specs.Arrays.{giversIn, takersIn, set-in-part}
+use Rattle.jobset.specs.Arrays.{giversIn, takersIn, giver-set, taker-set}
 use Rattle.jobfile.specs.declared.Counts.{Counts}
 use Rattle.jobfile.specs.Reading.{State, stateOf, answerOf, linked, takeNeed}
 
@@ -35,26 +35,23 @@ is-job-in n g e = simp tests at (T-true (isJob n g) .1 e)
 
 module _ (tables : List ℕ) (p q : ℕ) where
   -- the giver is put in
-  abbrev pub giverPut : List ℕ
+  abbrev giverPut : List ℕ
   giverPut = set tables p (with (setAt tables p) q .bits)
 
   -- and then the taker
-  abbrev pub bothPut : List ℕ
+  abbrev bothPut : List ℕ
   bothPut = set giverPut (64 + q) (with (setAt giverPut (64 + q)) p .bits)
 
   module _ (h : p < 64) where
-    giver-at : setAt (giversIn tables) p ≡ setAt tables p
-    giver-at = ap (λ (x : ℕ). record { bits = x }) (getD-take 64 tables p 0 h)
-
     givers-put : giversIn bothPut ≡ set (giversIn tables) p (with (setAt (giversIn tables) p) q .bits)
     givers-put =
         take-set-le 64 giverPut (64 + q) _ (omega arith) ∙ take-set-lt 64 tables p _ h
-        ∙ ap (λ (s : Set). set (giversIn tables) p (with s q .bits)) (sym giver-at)
+        ∙ ap (λ (s : Set). set (giversIn tables) p (with s q .bits)) (sym (giver-set tables p h))
 
     takers-put : q < 64 → takersIn bothPut ≡ set (takersIn tables) q (with (setAt (takersIn tables) q) p .bits)
     takers-put l =
         ap (take 64) (drop-set-add 64 giverPut q _) ∙ take-set-lt 64 (drop 64 giverPut) q _ l
-        ∙ ap (λ (s : Set). set (takersIn giverPut) q (with s p .bits)) (sym (set-in-part 64 64 giverPut q l))
+        ∙ ap (λ (s : Set). set (takersIn giverPut) q (with s p .bits)) (sym (taker-set giverPut q l))
         ∙ ap (λ (sets : List ℕ). set (take 64 sets) q (with (setAt (take 64 sets) q) p .bits)) (drop-set-lt 64 tables p _ h)
 
 -- ---- a need
@@ -94,14 +91,14 @@ module _ (c : Counts) (o tables : List ℕ) (g k : ℕ) (giver : isJob (c .jobs)
   both = bothPut tables (63 - (k - 1)) (63 - (g - 1))
 
   pub known-in : member (setAt tables (63 - (k - 1))) (63 - (g - 1)) ≡ true → takeNeed before g k ≡ refused 9
-  known-in e = known-need before g k giver taker other (rw (giver-at tables (63 - (k - 1)) (63 - (g - 1)) (omega arith)) e)
+  known-in e = known-need before g k giver taker other (rw (giver-set tables (63 - (k - 1)) (omega arith)) e)
 
   pub new-in : member (setAt tables (63 - (k - 1))) (63 - (g - 1)) ≡ false
       → takeNeed before g k ≡ got (record { fields = c .fields + 1; limit = c .limit; jobs = c .jobs; offsets = o; givers = giversIn both; takers = takersIn both })
   unfolding linked
   new-in e =
       let p = 63 - (k - 1) in let q = 63 - (g - 1) in
-      new-need before g k giver taker other (rw (giver-at tables p q (omega arith)) e)
+      new-need before g k giver taker other (rw (giver-set tables p (omega arith)) e)
       ∙ rw (givers-put tables p q (omega arith), takers-put tables p q (omega arith) (omega arith)) refl
 
 -- ---- the reader's answer, where x and y are the two bytes v and w

@@ -97,5 +97,4 @@ Same bs (got f) (got s) = Held bs f s
 -- the answer is the rules' reading: the same number, and what a readable file says
 pub record Reads (bs : List ℕ) (r : Counts) (offsets givers takers : List ℕ) : Type 0 where
   pub number-is : r .number ≡ numberOf (readFile bs)
-  pub held : (f : JobFile) → readFile bs ≡ got f
-      → Held bs f (record { fields = f .fields; limit = r .limit; jobs = r .jobs; offsets = offsets; givers = givers; takers = takers })
+  pub held : (f : JobFile) → readFile bs ≡ got f → Held bs f (stateOf r offsets givers takers)

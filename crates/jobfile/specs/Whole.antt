@@ -17,7 +17,6 @@ use Rattle.laws.specs.Fields.{ask-yes, ask-no}
 use Rattle.jobfile.specs.declared.Counts.{Counts}
 use Rattle.jobfile.specs.Reading.{stateOf, answerOf, completeNumber, Held, Same, Reads}
 use Rattle.jobfile.specs.NeedWays.{answer-refused, answer-got}
-use Rattle.jobfile.specs.Holding.{recounted}
 use Rattle.jobfile.specs.FieldByField.{allFields}
 
 -- a reading that was refused
@@ -53,13 +52,10 @@ module _ (bs : List ℕ) (fits : length bs ≤ 16384) (c : Counts) (o g t : List
 
     readable : 2 ≤ c .fields → 1 ≤ c .jobs → completeNumber c ≡ 0 → Reads bs result o g t
     unfolding result numberOf
-    readable h l n = record { number-is = number-is ∙ n ∙ sym (ap numberOf read); held = λ f′ e. let p : f ≡ f′ = cc (sym read ∙ e) in rw (← p) keep }
+    readable h l n = record { number-is = number-is ∙ n ∙ sym (ap numberOf read); held = λ f′ e. let p : f ≡ f′ = cc (sym read ∙ e) in rw (← p) held }
       where
         read : readFile bs ≡ got f
         read = completed ∙ ask-yes (leb 2 (f .fields) && leb 1 (length (f .jobs))) 10 (got f) (simp tests (omega (arith, held .fields-is), omega (arith, held .jobs-is)))
-
-        keep : Held bs f (record { fields = f .fields; limit = c .limit; jobs = c .jobs; offsets = o; givers = g; takers = t })
-        keep = recounted bs f (stateOf c o g t) held (f .fields) (f .fields) (c .limit) (f .limit) refl (held .limit-is)
 
   -- a file of which all fields were asked
   pub all-asked : Same bs (allFields bs) (answerOf c o g t) → Reads bs (record { number = q; fields = c .fields; limit = c .limit; jobs = c .jobs }) o g t

@@ -2,9 +2,9 @@
 use mathlib.Core.Path.{_≡_, sym, ap, _∙_}
 use mathlib.Core.Bool.{Bool}
 use mathlib.Core.List.{List}
-use Prim.Native.Nat.{ℕ, _+_, _-_, _<_}
+use Prim.Native.Nat.{ℕ, _+_, _-_, _≤_, _<_}
 use native.Mathlib.Omega.{arith}
-use lib.ListN.{take, drop}
+use lib.ListN.{length, take, drop, length-take, length-drop}
 use lib.Seq.{getD-take, getD-drop}
 use Rattle.rules.specs.Needs.{Need, givesb}
 use Rattle.jobset.specs.declared.Set.{Set}
@@ -44,9 +44,6 @@ set-in-part n m tables k h = ap (λ (x : ℕ). record { bits = x }) (getD-take n
 pub giver-set : (tables : List ℕ) (p : ℕ) → p < 64 → setAt (giversIn tables) p ≡ setAt tables p
 giver-set tables p h = ap (λ (x : ℕ). record { bits = x }) (getD-take 64 tables p 0 h)
 
-pub givers-front : (tables : List ℕ) (needs : List Need) → GiversAre (giversIn tables) needs → GiversAre tables needs
-givers-front tables needs h i j a b = ap (λ (x : Set). member x (63 - j)) (sym (giver-set tables (63 - i) (omega arith))) ∙ h i j a b
-
 pub taker-set : (tables : List ℕ) (p : ℕ) → p < 64 → setAt (takersIn tables) p ≡ setAt tables (64 + p)
 taker-set tables = set-in-part 64 64 tables
 
@@ -55,3 +52,11 @@ released-set tables = set-in-part 66 128 tables
 
 pub followed-set : (tables : List ℕ) (k : ℕ) → k < 66 → setAt (followedIn tables) k ≡ setAt tables (194 + k)
 followed-set tables = set-in-part 66 194 tables
+
+-- so the array has the givers of each job at its front
+pub givers-front : (tables : List ℕ) (needs : List Need) → GiversAre (giversIn tables) needs → GiversAre tables needs
+givers-front tables needs h i j a b = ap (λ (x : Set). member x (63 - j)) (sym (giver-set tables (63 - i) (omega arith))) ∙ h i j a b
+
+-- a part is as long as it says
+pub length-part : (m k : ℕ) (l : List ℕ) → m + k ≤ length l → length (take k (drop m l)) ≡ k
+length-part m k l h = simp (length-take, length-drop) (omega arith)

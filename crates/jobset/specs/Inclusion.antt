@@ -7,7 +7,7 @@ use native.Mathlib.Omega.{arith}
 use borrow.Author.Tests.{eq-eqb, eqb-true}
 use lib.Bits.{bitAnd, and-le-r}
 use Rattle.jobset.specs.declared.Set.{Set}
-use Rattle.jobset.specs.Sets.{member, empty, one, union, intersection, minus, with, without, Subset, isSubset}
+use Rattle.jobset.specs.Sets.{member, empty, one, union, intersection, minus, without, Subset, isSubset}
 use Rattle.jobset.specs.Tests.{bool-ext}
 use Rattle.jobset.specs.Membership.{member-empty, in-one, in-union, in-intersection, in-minus, set-ext}
 

@@ -13,7 +13,7 @@ use lib.Dec.{T, eqb, ltb}
 use Rattle.rules.specs.Basics.{choose, at, count}
 use Rattle.rules.specs.Needs.{Need, Gives, NeedsIn}
 use Rattle.rules.specs.Program.{Kept}
-use Rattle.rules.specs.Boards.{sweep, giverBefore, lowestFree, Placing, inherit, choice, inheritIn, choiceIn, slotBoards, inSlot}
+use Rattle.rules.specs.Boards.{sweep, giverBefore, lowestFree, Placing, inherit, firstFit, inheritIn, firstFitIn, slotBoards, inSlot}
 use Rattle.laws.specs.Tests.{T-and, T-or, T-ltb, T-eqb, tests}
 use Rattle.laws.specs.Counting.{count-lt}
 use Rattle.laws.specs.BoardRules.{GiverBefore, nobody, giver, giver-before, lowest-in, lowest-new, sweep-inv}
@@ -131,8 +131,8 @@ module _ (n : ℕ) (needs : List Need) (needs-in : NeedsIn n needs) (t : List �
         placed-same n needs t M s b₀ needs-in (first n) (second 0) z
         (λ i l e. (λ h. inherits-second 0 i (in-first n i .0 h .1), λ h. ⊎-elim (λ q. in-first n i .1 (l, q)) (λ q. absurd (omega (arith, q))) (in-second 0 i h))) m
 
-    step-second : (x : ℕ) (z : Placing) → 0 ≤ x → x < 0 + n → Now (second x) z → Now (second (suc x)) (choiceIn needs t s x z)
-    unfolding choiceIn choice choose
+    step-second : (x : ℕ) (z : Placing) → 0 ≤ x → x < 0 + n → Now (second x) z → Now (second (suc x)) (firstFitIn needs t s x z)
+    unfolding firstFitIn firstFit choose
     step-second x z _ lx m = go (eqb (at t x) s) (T-eqb (at t x) s) (giverBefore needs t x) refl (giver-before needs t x)
       where
         up : (i : ℕ) → T (second x i) → T (second (suc x) i)
@@ -148,7 +148,7 @@ module _ (n : ℕ) (needs : List Need) (needs-in : NeedsIn n needs) (t : List �
         next : (at t x ≡ s → T (second x x)) → (i : ℕ) → i < n → at t i ≡ s → T (second x i) ↔ T (second (suc x) i)
         next k i l e = (up i, λ h. ⊎-elim (λ q. rw q (k (ap (at t) (sym q) ∙ e))) (λ q. q) (split i h))
 
-        go : (b : Bool) → T b ↔ (at t x ≡ s) → (o : Option ℕ) → giverBefore needs t x ≡ o → GiverBefore needs t x o → Now (second (suc x)) (choose b (choice o x z) z)
+        go : (b : Bool) → T b ↔ (at t x ≡ s) → (o : Option ℕ) → giverBefore needs t x ≡ o → GiverBefore needs t x o → Now (second (suc x)) (choose b (firstFit o x z) z)
         go false f o e v = placed-same n needs t M s b₀ needs-in (second x) (second (suc x)) z (next (λ q. absurd (f .1 q))) m
         go true f _ e (giver g a q) = placed-same n needs t M s b₀ needs-in (second x) (second (suc x)) z (next (λ u. inherits-second x x some-is)) m
           where
@@ -169,7 +169,7 @@ module _ (n : ℕ) (needs : List Need) (needs-in : NeedsIn n needs) (t : List �
     -- the slots before s + 1 have their boards
     pub slot-given : Given n needs t M (suc s) (slotBoards n needs t s b₀)
     unfolding slotBoards
-    slot-given = finish (sweep (choiceIn needs t s) n 0 z₁) (rw zero-add at (sweep-inv (λ x z. Now (second x) z) (choiceIn needs t s) n 0 step-second z₁ (between z₁ first-done)))
+    slot-given = finish (sweep (firstFitIn needs t s) n 0 z₁) (rw zero-add at (sweep-inv (λ x z. Now (second x) z) (firstFitIn needs t s) n 0 step-second z₁ (between z₁ first-done)))
       where
         z₁ : Placing
         z₁ = sweep (inheritIn needs t s) n 0 ([], b₀)

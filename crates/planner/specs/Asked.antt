@@ -1,5 +1,5 @@
 -- Questions 2 to 12: a refusal, or what the rest is given. Assumes nothing.
-use mathlib.Core.Path.{_≡_, sym, ap, ap₂, _∙_}
+use mathlib.Core.Path.{_≡_, refl, sym, ap, ap₂, _∙_}
 use mathlib.Core.Bool.{true, false}
 use mathlib.Core.List.{List, _++_, map}
 use Prim.Native.Nat.{ℕ, _≤_, _<_}
@@ -22,16 +22,18 @@ use Rattle.laws.specs.Deadlines.{swap-in}
 use Rattle.jobset.specs.Arrays.{GiversAre, releasedIn, followedIn}
 use Rattle.jobfile.specs.declared.Counts.{Counts}
 use Rattle.jobfile.specs.Reading.{Reads}
+use Rattle.jobfile.specs.Holding.{recounted}
 use Rattle.windows.specs.declared.JobLevels.{JobLevels}
 use Rattle.windows.specs.Levels.{levelsOf}
 use Rattle.windows.specs.Held.{takers-reversed}
 use Rattle.windows.specs.LevelLaws.{levels-ok}
-use Rattle.windows.specs.Windows.{JobWindows, longestOf, windowsOf, fileWindows, widthIn}
+use Rattle.windows.specs.Windows.{JobWindows, leastOf, windowsOf, fileWindows, widthIn}
 use Rattle.windows.specs.FileWindows.{file-width}
 use Rattle.planner.specs.declared.Planned.the-variants as made
 use Rattle.bitmap.specs.Marks.{cleared as zeroed}
 use Rattle.planner.specs.declared.Planned.{Planned}
-use Rattle.planner.specs.Planner.{outcomeOf, Answers, size, JobsRead, Filled, WindowsRead}
+use Rattle.planner.specs.Planner.{outcomeOf, Answers, size, JobsRead, WindowsRead}
+use Rattle.planner.specs.Filling.{Filled}
 use Rattle.planner.specs.Searched.{jobs-few, limit-few, file-needs}
 use Rattle.planner.specs.Tabled.{answers-refused}
 
@@ -52,7 +54,8 @@ module _ (bs : List ℕ) (r : Counts) (o g t : List ℕ) (reads : Reads bs r o g
   pub jobs-read : r .number ≡ 0 → ((i : ℕ) → at bs i < 256) → JobsRead bs (r .jobs) (r .limit) o g t
   jobs-read z bytes =
       let f = read-got bs (sym (reads .number-is) ∙ z) in
-      record { file = f .0; read = f .1; keeps = readable bs (bytes-all bs bytes) (f .0) (f .1); held = reads .held (f .0) (f .1) }
+      let h = reads .held (f .0) (f .1) in
+      record { file = f .0; read = f .1; keeps = readable bs (bytes-all bs bytes) (f .0) (f .1); held = recounted bs (f .0) _ h (f .0 .fields) (f .0 .fields) (r .limit) (f .0 .limit) refl (h .limit-is) }
 
 -- ---- questions 11 and 12
 
@@ -103,7 +106,7 @@ module _ (bs : List ℕ) (n L : ℕ) (o g t : List ℕ) (j : JobsRead bs n L o g
               ∙ ask-no (leb (width (size (j .file)) (j .file .needs) (j .file .limit)) 8) 12 _ (λ c. omega (arith, T-leb (width (size (j .file)) (j .file .needs) (j .file .limit)) 8 .0 c, width-is)))
 
           -- no circle and not too wide: what the search is given
-          pub windows-read : k ≤ 8 → (least : ℕ) → least ≡ longestOf (before .level) (behind .level) n → WindowsRead bs n L o sets least
+          pub windows-read : k ≤ 8 → (least : ℕ) → least ≡ leastOf (before .level) (behind .level) n → WindowsRead bs n L o sets least
           unfolding w windowsOf
           windows-read h least e = record {
             jobs = record { file = j .file; read = j .read; keeps = j .keeps; held = rw (filled .givers-kept, filled .takers-kept) (j .held) };

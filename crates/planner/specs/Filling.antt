@@ -7,9 +7,15 @@ use lib.ListN.{length, take, drop, length-append, length-take, length-drop}
 use lib.Seq.{take-append-le, take-at, drop-at, length-take-le, take-take}
 use Rattle.rules.specs.Basics.{tabulate}
 use Rattle.jobset.specs.declared.Set.{Set}
-use Rattle.jobset.specs.Arrays.{giversIn, takersIn}
+use Rattle.jobset.specs.Arrays.{giversIn, takersIn, releasedIn, followedIn}
 use Rattle.windows.specs.Windows.{table, lowerJobs, higherJobs}
-use Rattle.planner.specs.Planner.{Filled}
+
+-- the tables hold the needs as before, and the windows that releases and tails by place make
+pub record Filled (n : ℕ) (givers takers release tail tables : List ℕ) : Type 0 where
+  pub givers-kept : giversIn tables ≡ givers
+  pub takers-kept : takersIn tables ≡ takers
+  pub released-made : releasedIn tables ≡ table (lowerJobs release n)
+  pub followed-made : followedIn tables ≡ table (higherJobs tail n)
 
 -- the list with the part of k elements behind the first m replaced
 abbrev pub withPart : ℕ → ℕ → List ℕ → List ℕ → List ℕ

@@ -12,7 +12,7 @@ use Rattle.rules.specs.Answers.{planTable, Outcome, cleared, written}
 use Rattle.laws.specs.JobFile.{Readable}
 use Rattle.jobset.specs.Arrays.{giversIn, takersIn, releasedIn, followedIn}
 use Rattle.jobfile.specs.Reading.{Held}
-use Rattle.windows.specs.Windows.{table, lowerJobs, higherJobs, fileWindows}
+use Rattle.windows.specs.Windows.{fileWindows}
 use Rattle.planner.specs.declared.Planned.{Planned}
 use Rattle.planner.specs.declared.Planned.the-variants.{Table, Refused}
 
@@ -31,13 +31,6 @@ pub record JobsRead (bs : List ℕ) (n L : ℕ) (offsets givers takers : List �
   pub read : readFile bs ≡ got file
   pub keeps : Readable file
   pub held : Held bs file (record { fields = file .fields; limit = L; jobs = n; offsets = offsets; givers = givers; takers = takers })
-
--- the tables hold the needs as before, and the windows that releases and tails by place make
-pub record Filled (n : ℕ) (givers takers release tail tables : List ℕ) : Type 0 where
-  pub givers-kept : giversIn tables ≡ givers
-  pub takers-kept : takersIn tables ≡ takers
-  pub released-made : releasedIn tables ≡ table (lowerJobs release n)
-  pub followed-made : followedIn tables ≡ table (higherJobs tail n)
 
 -- the number of its jobs
 abbrev pub size : JobFile → ℕ

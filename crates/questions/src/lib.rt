@@ -154,7 +154,7 @@ pub fn apart(start: &[u8], board: &[u8]) -> bool
 // ---- 18
 
 // Does the taker start late enough after the giver: one slot on its board, two on another?
-fn is_late(start: &[u8], board: &[u8], giver: usize, taker: usize) -> bool
+fn late_enough(start: &[u8], board: &[u8], giver: usize, taker: usize) -> bool
     requires { ⌜ (giver < length (now start)) × (taker < length (now start)) × (length (now board) ≡ length (now start)) ⌝ }
     ensures { λ r. ⌜ r ≡ lateEnough (now (start .entry)) (now (board .entry)) giver taker ⌝ }
 {
@@ -172,7 +172,7 @@ fn need_kept(givers: Set, start: &[u8], board: &[u8], giver: usize, taker: usize
     ensures { λ r. ⌜ r ≡ needKept givers (now (start .entry)) (now (board .entry)) giver taker ⌝ }
 {
     if givers.has(63 - giver) {
-        return is_late(start, board, giver, taker);
+        return late_enough(start, board, giver, taker);
     }
     true
 }

@@ -7,7 +7,7 @@ use lib.ListN.{length}
 use lib.Dec.{T}
 use Rattle.rules.specs.Basics.{at}
 use Rattle.rules.specs.Fields.{refused, got, ask, after}
-use Rattle.rules.specs.Table.{Row, starts, headOk, decode}
+use Rattle.rules.specs.Table.{Row, headOk, decode}
 use Rattle.laws.specs.Lists.{length-tabulate, map-tabulate}
 use Rattle.laws.specs.Fields.{ask-yes}
 use Rattle.rows.specs.Rows.{rowNumber, tableOf, Few, Decodes}

@@ -13,7 +13,7 @@ use Rattle.rules.specs.Sizes.{maxJobs}
 use Rattle.rules.specs.Basics.{at, tabulate}
 use Rattle.rules.specs.Fields.{Answer, refused, got, ask, after, part, fieldEnd, value, whole, overFields}
 use Rattle.rules.specs.JobFile.{nameOk}
-use Rattle.rules.specs.Table.{Row, Table, starts, rowOf, readRow, headOk, decode, rowStart}
+use Rattle.rules.specs.Table.{Row, Table, rowOf, readRow, headOk, decode, rowStart}
 use Rattle.laws.specs.Tests.{T-false, by-choice}
 use Rattle.laws.specs.Lists.{length-tabulate, tabulate-last}
 use Rattle.laws.specs.Fields.{ask-got, after-got, ask-yes, whole-is, after-head, length-value, overFields-step, overFields-end, overFields-keeps}

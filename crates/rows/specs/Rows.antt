@@ -34,7 +34,7 @@ abbrev pub Few : (ℕ → Bool) → Type 0
 Few few = (n : ℕ) → T (few n) → n ≤ maxJobs
 
 -- the reader's numbers and arrays are those of the table of so many rows
-pub record Holds (bs : List ℕ) (r : code.Rows) : Type 0 where
+pub record RowsRead (bs : List ℕ) (r : code.Rows) : Type 0 where
   pub decoded : (few : ℕ → Bool) → decode few bs ≡ ask (few (r .count)) 14 (got (tableOf bs (r .count)))
   pub slots-is : r .slots ≡ at bs 4
   pub boards-is : r .boards ≡ at bs 5
@@ -47,5 +47,5 @@ pub record Holds (bs : List ℕ) (r : code.Rows) : Type 0 where
 
 -- the reader says ok of a table of at most 64 rows alone
 pub record Decodes (bs : List ℕ) (r : code.Rows) : Type 0 where
-  pub held : r .ok ≡ true → Holds bs r
+  pub held : r .ok ≡ true → RowsRead bs r
   pub not-read : r .ok ≡ false → (few : ℕ → Bool) → Few few → decode few bs ≡ refused 14

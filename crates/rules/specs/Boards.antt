@@ -49,19 +49,19 @@ inherit none i z = z
 inherit (some g) i z = give i (at (z .1) g) z
 
 -- "The others .. take the lowest boards left in that slot"
-unfoldable pub choice : Option ℕ → ℕ → Placing → Placing
-choice none i z = give i (lowestFree (length (z .0)) 1 (z .0)) z
-choice (some g) i z = z
+unfoldable pub firstFit : Option ℕ → ℕ → Placing → Placing
+firstFit none i z = give i (lowestFree (length (z .0)) 1 (z .0)) z
+firstFit (some g) i z = z
 
 unfoldable pub inheritIn : List Need → List ℕ → ℕ → ℕ → Placing → Placing
 inheritIn needs t s i z = choose (eqb (at t i) s) (inherit (giverBefore needs t i) i z) z
 
-unfoldable pub choiceIn : List Need → List ℕ → ℕ → ℕ → Placing → Placing
-choiceIn needs t s i z = choose (eqb (at t i) s) (choice (giverBefore needs t i) i z) z
+unfoldable pub firstFitIn : List Need → List ℕ → ℕ → ℕ → Placing → Placing
+firstFitIn needs t s i z = choose (eqb (at t i) s) (firstFit (giverBefore needs t i) i z) z
 
 -- slot s: first the jobs with a giver in the slot before, then the others, each in rising number
 unfoldable pub slotBoards : ℕ → List Need → List ℕ → ℕ → List ℕ → List ℕ
-slotBoards n needs t s b = sweep (choiceIn needs t s) n 0 (sweep (inheritIn needs t s) n 0 ([], b)) .1
+slotBoards n needs t s b = sweep (firstFitIn needs t s) n 0 (sweep (inheritIn needs t s) n 0 ([], b)) .1
 
 -- "Boards are then given slot by slot"
 unfoldable pub boards : ℕ → List Need → List ℕ → List ℕ

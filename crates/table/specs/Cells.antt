@@ -9,7 +9,7 @@ use Rattle.rules.specs.Basics.{choose}
 use Rattle.rules.specs.Fields.{Answer, refused, ask}
 use Rattle.rules.specs.Table.{Table, starts, boardsOf, sized, apartb}
 use Rattle.laws.specs.Lists.{length-tabulate}
-use Rattle.rows.specs.Rows.{rowNumber, tableOf, Holds}
+use Rattle.rows.specs.Rows.{rowNumber, tableOf, RowsRead}
 use Rattle.questions.specs.Questions.{sizedIn}
 use Rattle.table.specs.Entries.{cellNumber}
 use Rattle.rows.specs.declared.Rows as code
@@ -19,7 +19,7 @@ pub rows-length : (bs : List ℕ) (n : ℕ) → length (tableOf bs n .rows) ≡ 
 unfolding tableOf
 rows-length bs n = length-tabulate (rowNumber bs) n 0
 
-module _ (bs : List ℕ) (r : code.Rows) (held : Holds bs r) where
+module _ (bs : List ℕ) (r : code.Rows) (held : RowsRead bs r) where
   t : Table
   t = tableOf bs (r .count)
 

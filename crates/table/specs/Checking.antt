@@ -2,7 +2,7 @@
 use mathlib.Core.Path.{_≡_, refl, sym, ap, ap₂, subst, _∙_}
 use mathlib.Core.Bool.{Bool, true, false}
 use mathlib.Core.List.{List}
-use Prim.Native.Nat.{ℕ, _+_, _-_, _≤_, _<_}
+use Prim.Native.Nat.{ℕ, _+_, _≤_, _<_}
 use native.Mathlib.Omega.{arith}
 use lib.ListN.{length, take, drop, length-drop, length-map}
 use lib.Dec.{T, leb, eqb}
@@ -21,10 +21,10 @@ use Rattle.laws.specs.Check.{q15, q16, q18}
 use Rattle.laws.specs.Refusals.{read-got}
 use Rattle.laws.specs.Numbers.{bytes-all}
 use Rattle.jobset.specs.Arrays.{GiversAre}
-use Rattle.jobfile.specs.Reading.{Held, Reads}
+use Rattle.jobfile.specs.Reading.{stateOf, Held, Reads}
 use Rattle.windows.specs.Levels.{levelsOf}
 use Rattle.windows.specs.LevelLaws.{levels-ok}
-use Rattle.rows.specs.Rows.{rowNumber, tableOf, Holds, Decodes}
+use Rattle.rows.specs.Rows.{rowNumber, tableOf, RowsRead, Decodes}
 use Rattle.rows.specs.RowWays.{IsRow, row-is}
 use Rattle.questions.specs.Questions.{labelledBy, Placed, labelledIn, setsKept}
 use Rattle.questions.specs.QuestionLaws.{kept-is}
@@ -68,7 +68,7 @@ module _ (file table : List ℕ) where
       unfolding f
       file-is = readable file (bytes-all file bytes) (file-got .0) (file-got .1)
 
-      held : Held file f (record { fields = f .fields; limit = F .limit; jobs = F .jobs; offsets = offsets; givers = givers; takers = takers })
+      held : Held file f (stateOf F offsets givers takers)
       unfolding f
       held = reads .held (file-got .0) (file-got .1)
 
@@ -104,7 +104,7 @@ module _ (file table : List ℕ) where
           not-read e = refused-by 14 (decoding ∙ rw (rows .not-read e (eqb (length (f .jobs))) (λ n t. let p : length (f .jobs) ≡ n = simp tests at t in omega (arith, file-is .jobs-in))) refl)
 
           module _ (is-read : r .ok ≡ true) where
-            row-held : Holds table r
+            row-held : RowsRead table r
             row-held = rows .held is-read
 
             pub other-count : (r .count ≡ F .jobs → ⊥) → verdict.Refused 14 ≡ verdictOf (check file table)

@@ -9,7 +9,7 @@ use lib.Dec.{T, leb}
 use Rattle.rules.specs.Sizes.{maxJobs, maxLimit}
 use Rattle.rules.specs.Basics.{at}
 use Rattle.rules.specs.Fields.{Answer, refused, got, ask, after, fieldEnd, value}
-use Rattle.rules.specs.Table.{Row, starts, boardsOf, decode, sized, apartb, rowStart}
+use Rattle.rules.specs.Table.{starts, boardsOf, sized, apartb, rowStart}
 use Rattle.rules.specs.Answers.{jobAt, lookupTable, lookup, nameSpan}
 use Rattle.laws.specs.Tests.{tests}
 use Rattle.laws.specs.Fields.{ask-yes, ask-no, whole-is, length-value, after-head}
@@ -18,7 +18,7 @@ use Rattle.table.specs.declared.places.Found.{Found}
 use Rattle.table.specs.declared.places.Found.the-variants as found
 use Rattle.table.specs.declared.places.Place.{Place}
 use Rattle.table.specs.declared.places.Place.the-variants as place
-use Rattle.rows.specs.Rows.{isRow, tableOf, Holds, Decodes}
+use Rattle.rows.specs.Rows.{isRow, tableOf, RowsRead, Decodes}
 use Rattle.rows.specs.RowWays.{row-is}
 use Rattle.table.specs.Cells.{rows-length, cells-yes, cells-no}
 use Rattle.table.specs.Lookup.{job-at, job-in}
@@ -36,7 +36,7 @@ module _ (bs : List ℕ) (s b : ℕ) where
     not-read e = refused-by 14 (rw (reads .not-read e (λ n. leb 1 n && leb n maxJobs) (λ n t. let w = simp tests at t in w .1)) refl)
 
     module _ (ok : r .ok ≡ true) where
-      held : Holds bs r
+      held : RowsRead bs r
       held = reads .held ok
 
       -- the arrays are long enough

@@ -47,9 +47,9 @@ pub fn check(file: &[u8], table: &[u8]) -> Verdict
     if !labelled(file, &offsets, table, &rows, jobs) {
         return Verdict::Refused(15);
     }
-    let broken = cells(t, f.limit);
-    if broken != 0 {
-        return Verdict::Refused(broken);
+    let refusal = cells(t, f.limit);
+    if refusal != 0 {
+        return Verdict::Refused(refusal);
     }
     let starts = t.start;
     let boards = t.board;

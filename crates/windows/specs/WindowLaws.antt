@@ -19,7 +19,7 @@ use Rattle.laws.specs.Counting.{most-ge, most-le}
 use Rattle.jobset.specs.declared.Set.{Set}
 use Rattle.jobset.specs.Sets.{member, setAt, empty, with, union, minus, Subset}
 use Rattle.windows.specs.JobSets.{jobsThat, allJobs, in-jobs, member-job, jobs-none, jobs-same, jobs-subset, jobs-union, jobs-minus}
-use Rattle.windows.specs.Windows.{table, cap, levelSet, firstSets, longestOf, lowerJobs, higherJobs, windowsOf}
+use Rattle.windows.specs.Windows.{table, cap, levelSet, firstSets, leastOf, lowerJobs, higherJobs, windowsOf}
 
 -- ---- arrays of sets
 
@@ -100,7 +100,7 @@ module _ (release tail : List ℕ) (n : ℕ) (n-le : n ≤ 64) where
 
   -- a makespan leaves every job a slot where it is at least the least
   pub least-is : (C : ℕ) → (windowsOf release tail n .least ≤ C) ↔ ((i : ℕ) → i < n → at release (63 - i) + at tail (63 - i) + 1 ≤ C)
-  unfolding windowsOf longestOf
+  unfolding windowsOf leastOf
   least-is C = (
     λ h i l. omega (arith, most-ge (λ i. at release (63 - i) + at tail (63 - i) + 1) n i l),
     λ f. most-le (λ i. at release (63 - i) + at tail (63 - i) + 1) n C f,

@@ -31,8 +31,8 @@ firstSets sets zero = empty
 firstSets sets (suc s) = union (firstSets sets s) (setAt sets s)
 
 -- the greatest release + tail + 1 of n jobs
-unfoldable pub longestOf : List ℕ → List ℕ → ℕ → ℕ
-longestOf release tail n = most (λ i. at release (63 - i) + at tail (63 - i) + 1) n
+unfoldable pub leastOf : List ℕ → List ℕ → ℕ → ℕ
+leastOf release tail n = most (λ i. at release (63 - i) + at tail (63 - i) + 1) n
 
 -- ---- windows and width
 
@@ -52,7 +52,7 @@ pub record JobWindows : Type 0 where
 -- the windows of n jobs, by releases and tails by place
 unfoldable pub windowsOf : List ℕ → List ℕ → ℕ → JobWindows
 windowsOf release tail n = record {
-  least = longestOf release tail n;
+  least = leastOf release tail n;
   released = table (lowerJobs release n);
   followed = table (higherJobs tail n);
 }

@@ -13,7 +13,7 @@ ghost use Rattle.jobset.specs.Sets.{setAt, minus};
 ghost use Rattle.jobset.specs.Arrays.{GiversAre};
 ghost use Rattle.windows.specs.JobSets.{allJobs};
 ghost use Rattle.windows.specs.Levels.{behind, levelBy, nextPlace, levelsOf};
-ghost use Rattle.windows.specs.Windows.{table, cap, levelSet, firstSets, lowerJobs, higherJobs, longestOf, widthIn};
+ghost use Rattle.windows.specs.Windows.{table, cap, levelSet, firstSets, lowerJobs, higherJobs, leastOf, widthIn};
 
 // ---- levels: question 11, releases and tails
 
@@ -164,7 +164,7 @@ fn below(sets: &[u64; 66], out: &mut [u64])
     }
 }
 
-// Of each number the jobs that are not in its set, in place.
+// Each set becomes the jobs that are not in it.
 fn others(all: Set, out: &mut [u64])
     requires { ⌜ length (now out) ≡ 66 ⌝ }
     ensures { λ _. ⌜ now (out .exit) ≡ table (λ k. minus all (setAt (now (out .entry)) k)) ⌝ }
@@ -205,7 +205,7 @@ fn span(release: u8, tail: u8) -> usize
 // The least makespan that leaves every job a slot: the greatest span of the jobs.
 pub fn least(release: &[u8; 64], tail: &[u8; 64], jobs: usize) -> usize
     requires { ⌜ jobs ≤ 64 ⌝ }
-    ensures { λ r. ⌜ r ≡ longestOf (now (release .entry)) (now (tail .entry)) jobs ⌝ }
+    ensures { λ r. ⌜ r ≡ leastOf (now (release .entry)) (now (tail .entry)) jobs ⌝ }
 {
     let mut most = 0;
     let mut i = 0;

@@ -6,7 +6,7 @@ use fields::value_at;
 use fields::word_at;
 ghost use mathlib.Core.Path.{_≡_};
 ghost use mathlib.Core.List.{_++_};
-ghost use Prim.Native.Nat.{ℕ, _+_, _<_, _≤_};
+ghost use Prim.Native.Nat.{_+_, _<_, _≤_};
 ghost use lib.ListN.{length, drop};
 ghost use Rattle.rules.specs.Table.{rowBytes, encode};
 ghost use Rattle.writer.specs.Written.{headBytes, fixedBytes, rowWith, tableWith, JobFields};

@@ -127,7 +127,7 @@ module _ (t : ℕ) where
   next-below-requires : explore-lts.Need-next-below-requires (claims t) (explore-at t) explore.Post Inv μ
   next-below-requires c κs = tt
 
-  -- the subset leads to nothing
+  -- on to the next subset
   loop-less : explore-lts.Need-loop-less (claims t) (explore-at t) explore.Post Inv μ
   loop-less c = rw (c .before .before .before .before .loop-test .taken, c .before .is-empty .ensures, c .next-below .ensures) (count-less (c .before .before .before .before .before .loop .tried) (c .before .before .before .before .before .before .before .candidates-at .result .tied))
 

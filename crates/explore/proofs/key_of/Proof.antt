@@ -18,6 +18,7 @@ held-sets : (tables : List ℕ) (left slot : ℕ) → left ≤ 64 → slot ≤ 6
 unfolding heldBefore
 held-sets tables left slot l s = ap₂ minus (released-set tables slot (omega arith)) (followed-set tables (left + 1) (omega arith))
 
+-- the code has them
 held-is : (c : tie.After-minus) → c .minus .result ≡ heldBefore (releasedIn (c .before .before .before .args .tables .now)) (followedIn (c .before .before .before .args .tables .now)) (c .before .before .before .args .left) (c .before .before .before .args .slot)
 held-is c =
     let s = c .before .before .before in

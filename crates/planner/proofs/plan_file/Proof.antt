@@ -5,26 +5,23 @@ use borrow.Author.Tests.{not-true, not-false}
 use native.Mathlib.Omega.{arith}
 use mathlib.Core.Path.{_≡_, refl, sym, ap, _∙_}
 use mathlib.Core.List.{List}
-use Prim.Native.Nat.{ℕ, _+_, _≤_}
-use lib.ListN.{length, take, drop, length-take, length-drop, length-replicate}
-use lib.Seq.{length-take-le}
-use Rattle.jobset.specs.Arrays.{giversIn, takersIn}
+use Prim.Native.Nat.{ℕ}
+use lib.ListN.{length, length-replicate}
+use Rattle.jobset.specs.Arrays.{giversIn, takersIn, length-part}
 use Rattle.windows.specs.Windows.{lowerJobs, higherJobs}
-use Rattle.planner.specs.Planner.{JobsRead, Filled}
-use Rattle.planner.specs.Filling.{withPart, length-with, length-table, filled}
+use Rattle.planner.specs.Planner.{JobsRead}
+use Rattle.planner.specs.Filling.{Filled, withPart, length-with, length-table, filled}
 use Rattle.planner.specs.Asked.{read-refused, jobs-read, givers-levels, takers-levels, refused-11, refused-12, windows-read}
 use Rattle.planner.proofs.plan_file.Statement.{statement}
 use Rattle.planner.proofs.plan_file.Tie as tie
 
 -- ---- what is known on the way
 
-length-part : (m k : ℕ) (l : List ℕ) → m + k ≤ length l → length (take k (drop m l)) ≡ k
-length-part m k l h = simp (length-take, length-drop) (omega arith)
-
 -- the tables that the reader leaves
 abbrev sets : tie.After-read-file → List ℕ
 sets c = c .read-file .last .1 .1 .0
 
+-- they are 260 sets, now and after each writing
 long : (c : tie.After-read-file) → length (sets c) ≡ 260
 long c = c .read-file .ensures .1
 
@@ -49,6 +46,7 @@ long-twice c =
     length-with 194 66 (c .higher-jobs .last .1 .1 .0) (once (c .before .before .before .before)) (omega (arith, long-once (c .before .before .before .before)))
     (ap length (c .higher-jobs .ensures) ∙ length-table (higherJobs (c .before .before .before .before .before .before .before .before .before .levels2 .result .level) (c .before .before .before .before .before .before .before .before .before .before .before .before .before .before .before .before .before .read-file .result .jobs))) ∙ long-once (c .before .before .before .before)
 
+-- they hold the needs and the windows
 tables-filled : (c : tie.After-higher-jobs) → Filled (c .before .before .before .before .before .before .before .before .before .before .before .before .before .before .before .before .before .read-file .result .jobs) (giversIn (sets (c .before .before .before .before .before .before .before .before .before .before .before .before .before .before .before .before .before))) (takersIn (sets (c .before .before .before .before .before .before .before .before .before .before .before .before .before .before .before .before .before))) (c .before .before .before .before .before .before .before .before .before .before .before .before .before .before .levels .result .level) (c .before .before .before .before .before .before .before .before .before .levels2 .result .level) (twice c)
 tables-filled c = filled _ (sets (c .before .before .before .before .before .before .before .before .before .before .before .before .before .before .before .before .before)) _ _ _ _ (long (c .before .before .before .before .before .before .before .before .before .before .before .before .before .before .before .before .before)) (c .before .before .before .before .lower-jobs .ensures) (c .higher-jobs .ensures)
 
@@ -64,10 +62,10 @@ array-share-prefix-tables : tie.Need-array-share-prefix-tables
 array-share-prefix-tables c = omega (arith, long (c .before))
 
 slice-aggregate-levels : tie.Need-slice-aggregate-levels
-slice-aggregate-levels c = sym (length-take-le 64 (sets (c .before .before)) (omega (arith, long (c .before .before))))
+slice-aggregate-levels c = sym (length-part 0 64 (sets (c .before .before)) (omega (arith, long (c .before .before))))
 
 levels-requires : tie.Need-levels-requires
-levels-requires c κs = (read (c .before) .held .few, omega (arith, length-take-le 64 (sets (c .before .before)) (omega (arith, long (c .before .before)))))
+levels-requires c κs = (read (c .before) .held .few, omega (arith, length-part 0 64 (sets (c .before .before)) (omega (arith, long (c .before .before)))))
 
 returns-2 : tie.Need-returns-2
 returns-2 c =

@@ -12,13 +12,13 @@ sub-has c = search needs
 has-requires : tie.Need-has-requires
 has-requires c κs = search needs
 
-is-late-requires : tie.Need-is-late-requires
-is-late-requires c κs = search needs
+late-enough-requires : tie.Need-late-enough-requires
+late-enough-requires c κs = search needs
 
 returns : tie.Need-returns
 unfolding needKept imp
 returns c =
-    simp (sym (c .before .before .has .ensures) ∙ c .before .if1 .taken, c .is-late .ensures)
+    simp (sym (c .before .before .has .ensures) ∙ c .before .if1 .taken, c .late-enough .ensures)
 
 returns-2 : tie.Need-returns-2
 unfolding needKept imp
@@ -26,4 +26,4 @@ returns-2 c =
     simp (sym (c .before .has .ensures) ∙ c .if1 .left)
 
 pub need-kept-spec : {M : Type 1} → statement M
-need-kept-spec = tie.close (tie.spec sub-has has-requires is-late-requires returns returns-2)
+need-kept-spec = tie.close (tie.spec sub-has has-requires late-enough-requires returns returns-2)

@@ -4,18 +4,18 @@ use Prim.Native.Nat.{_-_, _≤_}
 use native.Mathlib.Numerals.{add-one}
 use native.Mathlib.Omega.{arith}
 use Rattle.rules.specs.Basics.{most}
-use Rattle.windows.specs.Windows.{longestOf}
+use Rattle.windows.specs.Windows.{leastOf}
 use Rattle.windows.proofs.least.Statement.{statement}
 use Rattle.windows.proofs.least.Tie as tie
 
 abbrev Inv-loop : tie.InvT-loop
-Inv-loop release tail jobs most₀ i₀ most i = (i ≤ jobs) × (most ≡ longestOf release tail i)
+Inv-loop release tail jobs most₀ i₀ most i = (i ≤ jobs) × (most ≡ leastOf release tail i)
 
 abbrev μ-loop : tie.MeasureT-loop
 μ-loop release tail jobs most₀ i₀ most i = jobs - i
 
 loop-holds : tie.Need-loop-holds Inv-loop μ-loop
-unfolding longestOf most
+unfolding leastOf most
 loop-holds c = (omega arith, refl)
 
 sub-span : tie.Need-sub-span Inv-loop μ-loop
@@ -43,7 +43,7 @@ loop-less : tie.Need-loop-less Inv-loop μ-loop
 loop-less c = omega arith
 
 loop-again : tie.Need-loop-again Inv-loop μ-loop
-unfolding longestOf most
+unfolding leastOf most
 loop-again c =
     let l = c .before .before .before .before .before .loop in
     (omega arith, rw (add-one (l .i), c .greater .ensures, c .before .span .ensures, l .inv .1))
@@ -53,7 +53,7 @@ returns c =
     let l = c .before .loop in
     let a = c .before .before .args in
     let e : l .i ≡ a .jobs = omega arith in
-    l .inv .1 ∙ ap (longestOf (a .release .now) (a .tail .now)) e
+    l .inv .1 ∙ ap (leastOf (a .release .now) (a .tail .now)) e
 
 pub least-spec : {M : Type 1} → statement M
 least-spec =

@@ -1,6 +1,6 @@
 -- The calls of `boards::place_rows`, each at plain values: what the callee asks, and what is known of its result. Assumes nothing.
 use mathlib.Core.Path.{_≡_, refl}
-use Prim.Native.Nat.{ℕ, _<_, _-_}
+use Prim.Native.Nat.{ℕ, _<_}
 use native.Mathlib.Omega.{arith}
 use native.Mathlib.Nat.{lt-of-le-of-lt}
 use mathlib.Core.List.{[], _∷_, List}

@@ -1,6 +1,6 @@
 -- What `boards::place_rows` is passed, its locals, the context at the head of each of its loops, and its exit. Assumes nothing.
 use mathlib.Core.Path.{_≡_, refl, sym, ap, subst}
-use Prim.Native.Nat.{ℕ, _<_, _≤_, _^_, _*_, _-_}
+use Prim.Native.Nat.{ℕ, _<_, _≤_, _^_, _*_}
 use native.Mathlib.Omega.{arith}
 use native.Mathlib.Nat.{lt-of-le-of-lt}
 use mathlib.Core.List.{[], _∷_, List}

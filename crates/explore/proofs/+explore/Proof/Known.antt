@@ -38,7 +38,7 @@ abbrev pub μ-explore : Measures 3 explore-kinds.ps ℕ
 abbrev pub explore-at : ℕ → In 3 explore-kinds.ps
 explore-at t = and 3 explore-kinds.ps (is 3 explore-kinds.ps μ-explore t) explore.Pre
 
-abbrev pub explore-below : ℕ → In 3 explore-kinds.ps
+abbrev explore-below : ℕ → In 3 explore-kinds.ps
 explore-below t = and 3 explore-kinds.ps (falls 3 explore-kinds.ps _<_ μ-explore t) explore.Pre
 
 -- what each callee asks and tells
@@ -169,7 +169,7 @@ module _ (t : ℕ) where
   child c = rw (c .union2 .ensures, slot-jobs (c .before .before))
 
   -- where there is no plan, there are no sets to write
-  pub none-after : (c : explore-lts.After-union2 (claims t) (explore-at t) explore.Post Inv μ) → following c .plan .ok ≡ false → following c .plan ≡ noPlan
+  none-after : (c : explore-lts.After-union2 (claims t) (explore-at t) explore.Post Inv μ) → following c .plan .ok ≡ false → following c .plan ≡ noPlan
   unfolding after
   none-after c =
       let s = start-of (c .before .before .before .before .before .before) in
@@ -180,7 +180,7 @@ module _ (t : ℕ) where
   abbrev pub pathAfter : explore-lts.After-explore (claims t) (explore-at t) explore.Post Inv μ → List ℕ
   pathAfter c = c .explore .last .1 .1 .1 .1 .1 .1 .0
 
-  abbrev pub deadAfter : explore-lts.After-explore (claims t) (explore-at t) explore.Post Inv μ → List ℕ
+  abbrev deadAfter : explore-lts.After-explore (claims t) (explore-at t) explore.Post Inv μ → List ℕ
   deadAfter c = c .explore .last .1 .0
 
   -- what holds after a subset that led to no plan: length, path, and the tries from the next subset on

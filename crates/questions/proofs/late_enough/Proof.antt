@@ -1,11 +1,11 @@
--- `questions::is_late` meets its contract. Assumes nothing.
+-- `questions::late_enough` meets its contract. Assumes nothing.
 use Rattle.questions.specs.Questions.{lateEnough}
 use Rattle.rules.specs.Basics.{choose}
 use borrow.Author.Tests.{eq-eqb, ne-eqb}
 use native.Mathlib.Omega.{arith}
 use borrow.Author.Needs.{needs}
-use Rattle.questions.proofs.is_late.Statement.{statement}
-use Rattle.questions.proofs.is_late.Tie as tie
+use Rattle.questions.proofs.late_enough.Statement.{statement}
+use Rattle.questions.proofs.late_enough.Tie as tie
 
 shared-slice-read-wide : tie.Need-shared-slice-read-wide
 shared-slice-read-wide c = search needs
@@ -43,8 +43,8 @@ unfolding lateEnough choose
 returns-2 c =
     simp (ne-eqb _ _ (c .if1 .left), c .before .before .before .before .before .wide .ensures, c .before .before .before .wide2 .ensures)
 
-pub is-late-spec : {M : Type 1} → statement M
-is-late-spec =
+pub late-enough-spec : {M : Type 1} → statement M
+late-enough-spec =
     tie.close
     (tie.spec
     shared-slice-read-wide
