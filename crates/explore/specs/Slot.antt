@@ -1,11 +1,12 @@
 -- One slot of the search: the tables of a job file, the jobs whose windows hold a slot, the candidates. Assumes nothing.
+use mathlib.Core.Path.{_≡_, ap₂}
 use mathlib.Core.Bool.{Bool, _&&_}
 use mathlib.Core.List.{List, [], _∷_}
-use Prim.Native.Nat.{ℕ, _+_}
+use Prim.Native.Nat.{ℕ, _+_, _<_}
 use Rattle.rules.specs.Basics.{choose, all}
 use Rattle.jobset.specs.declared.Set.{Set}
 use Rattle.jobset.specs.Sets.{setAt, empty, with, union, minus, intersection, isSubset, isEmpty, isOne, members}
-use Rattle.jobset.specs.Arrays.{giversIn, takersIn, releasedIn, followedIn}
+use Rattle.jobset.specs.Arrays.{giversIn, takersIn, releasedIn, followedIn, released-set, followed-set}
 use Rattle.explore.specs.declared.Candidates.{Candidates}
 
 -- what the search knows of a job file, all as sets of places: the givers and the takers of each job,
@@ -36,6 +37,10 @@ windowOf released followed left slot = minus (setAt released (slot + 1)) (setAt 
 -- the jobs whose windows hold the slot before
 unfoldable pub heldBefore : List ℕ → List ℕ → ℕ → ℕ → Set
 heldBefore released followed left slot = minus (setAt released slot) (setAt followed (left + 1))
+
+-- such a difference, in the one array
+pub released-less : (sets : List ℕ) (s k : ℕ) → s < 66 → k < 66 → minus (setAt (releasedIn sets) s) (setAt (followedIn sets) k) ≡ minus (setAt sets (128 + s)) (setAt sets (194 + k))
+released-less sets s k a b = ap₂ minus (released-set sets s a) (followed-set sets k b)
 
 -- ---- the candidates, `done` having run before the slot and `last` in the slot before
 

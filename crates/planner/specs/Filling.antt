@@ -1,11 +1,11 @@
 -- The windows written into the one array of tables: the needs before them stay, and each part holds what was written. Assumes nothing.
-use mathlib.Core.Path.{_≡_, refl, ap, _∙_}
+use mathlib.Core.Path.{_≡_, ap, _∙_}
 use mathlib.Core.List.{List, [], _∷_, _++_}
 use Prim.Native.Nat.{ℕ, zero, suc, _+_, _≤_}
 use native.Mathlib.Omega.{arith}
 use lib.ListN.{length, take, drop, length-append, length-take, length-drop}
 use lib.Seq.{take-append-le, take-at, drop-at, length-take-le, take-take}
-use Rattle.rules.specs.Basics.{tabulate}
+use Rattle.laws.specs.Lists.{length-tabulate}
 use Rattle.jobset.specs.declared.Set.{Set}
 use Rattle.jobset.specs.Arrays.{giversIn, takersIn, releasedIn, followedIn}
 use Rattle.windows.specs.Windows.{table, lowerJobs, higherJobs}
@@ -39,8 +39,8 @@ length-with m k part l h e = simp (length-append, length-take, length-drop) (ome
 
 -- the windows have 66 sets
 pub length-table : (f : ℕ → Set) → length (table f) ≡ 66
-unfolding table tabulate
-length-table f = refl
+unfolding table
+length-table f = length-tabulate (λ k. f k .bits) 66 0
 
 -- first those by releases, then those by tails
 pub filled : (n : ℕ) (sets released followed release tail : List ℕ) → length sets ≡ 260 → released ≡ table (lowerJobs release n) → followed ≡ table (higherJobs tail n)

@@ -1,19 +1,10 @@
 -- `explore::candidates_at` meets its contract. Assumes nothing.
 use borrow.Author.Needs.{needs}
 use native.Mathlib.Omega.{arith}
-use mathlib.Core.Path.{_≡_, ap₂}
-use mathlib.Core.List.{List}
-use Prim.Native.Nat.{ℕ, _+_, _≤_}
-use Rattle.jobset.specs.Sets.{setAt, minus}
-use Rattle.jobset.specs.Arrays.{releasedIn, followedIn, released-set, followed-set}
-use Rattle.explore.specs.Slot.{windowOf, candidatesAt}
+use Prim.Native.Nat.{_+_}
+use Rattle.explore.specs.Slot.{windowOf, released-less, candidatesAt}
 use Rattle.explore.proofs.candidates_at.Statement.{statement}
 use Rattle.explore.proofs.candidates_at.Tie as tie
-
--- the jobs whose windows hold the slot, in the array
-window-sets : (tables : List ℕ) (left slot : ℕ) → left ≤ 64 → slot ≤ 64 → windowOf (releasedIn tables) (followedIn tables) left slot ≡ minus (setAt tables (128 + (slot + 1))) (setAt tables (194 + left))
-unfolding windowOf
-window-sets tables left slot l s = ap₂ minus (released-set tables (slot + 1) (omega arith)) (followed-set tables left (omega arith))
 
 add-t8 : tie.Need-add-t8
 add-t8 c = search needs
@@ -46,10 +37,10 @@ candidates-of-requires : tie.Need-candidates-of-requires
 candidates-of-requires c κs = search needs
 
 returns : tie.Need-returns
-unfolding candidatesAt
+unfolding candidatesAt windowOf
 returns c =
-    let s = c .before .before .before .before .before in
-    rw (c .candidates-of .ensures, c .before .minus2 .ensures, c .before .before .minus .ensures, window-sets (s .args .tables .now) (s .args .left) (s .args .slot) (s .pre .0) (s .pre .1))
+    let a = c .before .before .before .before .before .args in
+    rw (c .candidates-of .ensures, c .before .minus2 .ensures, c .before .before .minus .ensures, released-less (a .tables .now) (a .slot + 1) (a .left) (omega arith) (omega arith))
 
 pub candidates-at-spec : {M : Type 1} → statement M
 candidates-at-spec =

@@ -1,28 +1,23 @@
 -- `explore::key_of` meets its contract: the code is below 6,561, so the key fits. Assumes nothing.
 use borrow.Author.Needs.{needs}
 use native.Mathlib.Omega.{arith}
-use mathlib.Core.Path.{_≡_, sym, ap₂, _∙_}
-use mathlib.Core.List.{List}
-use Prim.Native.Nat.{ℕ, _+_, _<_, _≤_}
+use mathlib.Core.Path.{_≡_, sym, _∙_}
+use Prim.Native.Nat.{_+_, _<_, _≤_}
 use lib.ListN.{length}
-use Rattle.jobset.specs.Sets.{setAt, minus, members}
-use Rattle.jobset.specs.Arrays.{releasedIn, followedIn, released-set, followed-set}
-use Rattle.explore.specs.Slot.{heldBefore}
+use Rattle.jobset.specs.Sets.{members}
+use Rattle.jobset.specs.Arrays.{releasedIn, followedIn}
+use Rattle.explore.specs.Slot.{heldBefore, released-less}
 use Rattle.explore.specs.Model.{key}
 use Rattle.explore.specs.Codes.{code-lt}
 use Rattle.explore.proofs.key_of.Statement.{statement}
 use Rattle.explore.proofs.key_of.Tie as tie
 
--- the jobs held, in the array
-held-sets : (tables : List ℕ) (left slot : ℕ) → left ≤ 64 → slot ≤ 64 → heldBefore (releasedIn tables) (followedIn tables) left slot ≡ minus (setAt tables (128 + slot)) (setAt tables (194 + (left + 1)))
-unfolding heldBefore
-held-sets tables left slot l s = ap₂ minus (released-set tables slot (omega arith)) (followed-set tables (left + 1) (omega arith))
-
--- the code has them
+-- the code has the jobs held
 held-is : (c : tie.After-minus) → c .minus .result ≡ heldBefore (releasedIn (c .before .before .before .args .tables .now)) (followedIn (c .before .before .before .args .tables .now)) (c .before .before .before .args .left) (c .before .before .before .args .slot)
+unfolding heldBefore
 held-is c =
-    let s = c .before .before .before in
-    c .minus .ensures ∙ sym (held-sets (s .args .tables .now) (s .args .left) (s .args .slot) (s .pre .0) (s .pre .1))
+    let a = c .before .before .before .args in
+    c .minus .ensures ∙ sym (released-less (a .tables .now) (a .slot) (a .left + 1) (omega arith) (omega arith))
 
 -- they are at most eight
 narrow : (c : tie.After-minus) → length (members (c .minus .result)) ≤ 8

@@ -1,15 +1,20 @@
 -- `table::check` meets its contract. Assumes nothing.
 use Rattle.table.specs.Checking.{file-refused, jobs-few, circle, not-read, other-count, rows-fit, placed, wrong-label, bad-cells, need-broken, passes}
 use Rattle.table.specs.Finding.{fits}
-use lib.ListN.{length-replicate}
+use lib.ListN.{length, length-replicate}
+use Rattle.jobset.specs.Arrays.{giversIn, length-part}
 use lib.Seq.{length-take-le}
 use borrow.Author.Tests.{not-true, not-false}
 use native.Mathlib.Omega.{arith}
 use Prim.Native.Nat.{ℕ}
-use mathlib.Core.Path.{refl, sym, _∙_}
+use mathlib.Core.Path.{_≡_, refl, sym, _∙_}
 use borrow.Author.Needs.{needs}
 use Rattle.table.proofs.check.Statement.{statement}
 use Rattle.table.proofs.check.Tie as tie
+
+-- the tables that the reader leaves have the givers of 64 jobs
+givers-long : (c : tie.After-read-file) → length (giversIn (c .read-file .last .1 .1 .0)) ≡ 64
+givers-long c = length-part 0 64 (c .read-file .last .1 .1 .0) (omega (arith, c .read-file .ensures .1))
 
 read-file-requires : tie.Need-read-file-requires
 read-file-requires c κs =
@@ -25,11 +30,11 @@ array-share-prefix-tables c =
 
 slice-aggregate-levels : tie.Need-slice-aggregate-levels
 slice-aggregate-levels c =
-    sym (length-take-le 64 (c .before .before .read-file .last .1 .1 .0) (omega (arith, c .before .before .read-file .ensures .1)))
+    sym (givers-long (c .before .before))
 
 levels-requires : tie.Need-levels-requires
 levels-requires c κs =
-    (jobs-few _ (c .before .before .before .before .before .before .before .args .table .now) _ _ _ _ (c .before .before .read-file .ensures .0) (λ i. omega (arith, c .before .before .before .before .before .before .shared-slice-known .given i)) (c .before .if1 .left), omega (arith, length-take-le 64 (c .before .before .read-file .last .1 .1 .0) (omega (arith, c .before .before .read-file .ensures .1))))
+    (jobs-few _ (c .before .before .before .before .before .before .before .args .table .now) _ _ _ _ (c .before .before .read-file .ensures .0) (λ i. omega (arith, c .before .before .before .before .before .before .shared-slice-known .given i)) (c .before .if1 .left), omega (arith, givers-long (c .before .before)))
 
 returns-2 : tie.Need-returns-2
 returns-2 c =
@@ -69,7 +74,7 @@ array-share-prefix-tables-2 c =
 
 slice-aggregate-needs-kept : tie.Need-slice-aggregate-needs-kept
 slice-aggregate-needs-kept c =
-    sym (length-take-le 64 (c .before .before .before .before .before .before .before .before .before .before .before .before .before .before .before .before .before .before .before .before .read-file .last .1 .1 .0) (omega (arith, c .before .before .before .before .before .before .before .before .before .before .before .before .before .before .before .before .before .before .before .before .read-file .ensures .1)))
+    sym (givers-long (c .before .before .before .before .before .before .before .before .before .before .before .before .before .before .before .before .before .before .before .before))
 
 array-share-prefix-starts : tie.Need-array-share-prefix-starts
 array-share-prefix-starts c =
@@ -89,7 +94,7 @@ slice-aggregate-needs-kept-3 c =
 
 needs-kept-requires : tie.Need-needs-kept-requires
 needs-kept-requires c κs =
-    let h = rows-fit _ _ _ _ _ _ (c .before .before .before .before .before .before .before .before .before .before .before .before .before .before .before .before .before .before .before .before .before .before .read-file .ensures .0) (λ i. omega (arith, c .before .before .before .before .before .before .before .before .before .before .before .before .before .before .before .before .before .before .before .before .before .before .before .before .before .before .shared-slice-known .given i)) (c .before .before .before .before .before .before .before .before .before .before .before .before .before .before .before .before .before .before .before .before .before .if1 .left) _ (c .before .before .before .before .before .before .before .before .before .before .before .before .before .before .before .before .before .before .before .levels .ensures) (not-false _ (c .before .before .before .before .before .before .before .before .before .before .before .before .before .before .before .before .before .if2 .left)) _ (c .before .before .before .before .before .before .before .before .before .before .before .before .before .before .before .before .read-rows .ensures) (not-false _ (c .before .before .before .before .before .before .before .before .before .before .before .before .before .before .if3 .left)) (c .before .before .before .before .before .before .before .before .before .before .before .before .if4 .left) in (omega (arith, length-take-le 64 (c .before .before .before .before .before .before .before .before .before .before .before .before .before .before .before .before .before .before .before .before .before .before .read-file .last .1 .1 .0) (omega (arith, c .before .before .before .before .before .before .before .before .before .before .before .before .before .before .before .before .before .before .before .before .before .before .read-file .ensures .1))), length-take-le _ _ (h .1) ∙ sym (length-take-le _ _ (h .0)), rw (length-take-le _ _ (h .0)) (jobs-few _ (c .before .before .before .before .before .before .before .before .before .before .before .before .before .before .before .before .before .before .before .before .before .before .before .before .before .before .before .args .table .now) _ _ _ _ (c .before .before .before .before .before .before .before .before .before .before .before .before .before .before .before .before .before .before .before .before .before .before .read-file .ensures .0) (λ i. omega (arith, c .before .before .before .before .before .before .before .before .before .before .before .before .before .before .before .before .before .before .before .before .before .before .before .before .before .before .shared-slice-known .given i)) (c .before .before .before .before .before .before .before .before .before .before .before .before .before .before .before .before .before .before .before .before .before .if1 .left)))
+    let h = rows-fit _ _ _ _ _ _ (c .before .before .before .before .before .before .before .before .before .before .before .before .before .before .before .before .before .before .before .before .before .before .read-file .ensures .0) (λ i. omega (arith, c .before .before .before .before .before .before .before .before .before .before .before .before .before .before .before .before .before .before .before .before .before .before .before .before .before .before .shared-slice-known .given i)) (c .before .before .before .before .before .before .before .before .before .before .before .before .before .before .before .before .before .before .before .before .before .if1 .left) _ (c .before .before .before .before .before .before .before .before .before .before .before .before .before .before .before .before .before .before .before .levels .ensures) (not-false _ (c .before .before .before .before .before .before .before .before .before .before .before .before .before .before .before .before .before .if2 .left)) _ (c .before .before .before .before .before .before .before .before .before .before .before .before .before .before .before .before .read-rows .ensures) (not-false _ (c .before .before .before .before .before .before .before .before .before .before .before .before .before .before .if3 .left)) (c .before .before .before .before .before .before .before .before .before .before .before .before .if4 .left) in (omega (arith, givers-long (c .before .before .before .before .before .before .before .before .before .before .before .before .before .before .before .before .before .before .before .before .before .before)), length-take-le _ _ (h .1) ∙ sym (length-take-le _ _ (h .0)), rw (length-take-le _ _ (h .0)) (jobs-few _ (c .before .before .before .before .before .before .before .before .before .before .before .before .before .before .before .before .before .before .before .before .before .before .before .before .before .before .before .args .table .now) _ _ _ _ (c .before .before .before .before .before .before .before .before .before .before .before .before .before .before .before .before .before .before .before .before .before .before .read-file .ensures .0) (λ i. omega (arith, c .before .before .before .before .before .before .before .before .before .before .before .before .before .before .before .before .before .before .before .before .before .before .before .before .before .before .shared-slice-known .given i)) (c .before .before .before .before .before .before .before .before .before .before .before .before .before .before .before .before .before .before .before .before .before .if1 .left)))
 
 returns-7 : tie.Need-returns-7
 returns-7 c =
