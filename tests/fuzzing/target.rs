@@ -5,7 +5,7 @@
 use gate_tests::generate::drafts::field;
 use gate_tests::generate::random::Random;
 use gate_tests::reference::entries::{self, WORK_BYTES};
-use gate_tests::reference::reading::LONGEST_FILE;
+use gate_tests::reference::reading::{take_field, LONGEST_FILE};
 use gate_tests::reference::table::{Table, LONGEST_TABLE};
 use gate_tests::stage::{Stage, Verdict, LONGEST_INPUT};
 use std::cell::RefCell;
@@ -69,10 +69,12 @@ fn lookup(stage: &mut Stage, random: &mut Random, first: u8, second: u8, rest: &
     stage.lookup(random, rest, first as usize, second as usize).1
 }
 
-/// How many changes, and whether the counts in the table's header follow them; slot and board; changes, file.
+/// How many changes, whether the counts in the table's header follow them, and whether the table is planned for eight
+/// boards; slot and board; changes, file.
 fn changed(stage: &mut Stage, random: &mut Random, first: u8, second: u8, rest: &[u8]) -> Verdict {
     let (changes, file) = rest.split_at((3 * (first % 8) as usize).min(rest.len()));
-    let mut table = entries::plan(file, WORK_BYTES, LONGEST_TABLE).unwrap_or_default();
+    let planned = if first & 16 != 0 { without_boards(file) } else { file.to_vec() };
+    let mut table = entries::plan(&planned, WORK_BYTES, LONGEST_TABLE).unwrap_or_default();
     for change in changes.chunks_exact(3) {
         let at = u16::from_le_bytes([change[0], change[1]]) as usize % table.len().max(1);
         if let Some(byte) = table.get_mut(at) {
@@ -84,6 +86,18 @@ fn changed(stage: &mut Stage, random: &mut Random, first: u8, second: u8, rest: 
     }
     stage.check(random, file, &table).1?;
     stage.lookup(random, &table, (second % 16) as usize, (second / 16) as usize).1
+}
+
+/// The fields of a file but those with tag 9.
+fn without_boards(mut file: &[u8]) -> Vec<u8> {
+    let mut kept = Vec::new();
+    while let Some((tag, value, behind)) = take_field(file) {
+        if tag != 9 {
+            kept.extend(field(tag, value));
+        }
+        file = behind;
+    }
+    kept
 }
 
 /// Makes the header's counts fit the rows, so that changes to rows get as far as the later questions.

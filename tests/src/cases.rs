@@ -1,11 +1,11 @@
 //! The generated cases. Each index of a seed gives one file, always the same one, and what is tried with it.
 
-use crate::generate::drafts::Draft;
+use crate::generate::drafts::{self, boards_field, Draft};
 use crate::generate::random::Random;
 use crate::generate::{damage, hard, limits, shapes, tables};
 use crate::reference::lists;
 use crate::reference::needs::Graph;
-use crate::reference::reading::{read, JobFile, LONGEST_FILE};
+use crate::reference::reading::{read, JobFile, LONGEST_FILE, MOST_BOARDS};
 use crate::reference::search;
 use crate::reference::table::Table;
 use crate::report::shown;
@@ -20,7 +20,8 @@ pub fn run(tester: &mut Tester, seed: u64, index: u64) {
     tester.random = Random::new(seed, index);
     tester.label = format!("seed {seed} index {index}");
     match index % 20 {
-        0..=8 => sound(tester),
+        0..=7 => sound(tester),
+        8 => eight_boards(tester),
         9..=11 => small(tester),
         12 => without_windows(tester),
         13..=15 => damaged_fields(tester),
@@ -43,14 +44,47 @@ fn sound(tester: &mut Tester) {
         tester.plan_in_any("plan: buffers of any length", &file);
     }
     try_tables(tester, &file, &planned);
+    let other = Draft { boards: drafts::boards(&mut tester.random), ..draft };
+    let _ = tester.check("check: tables planned for other most boards", &file, &some_table(&other));
+}
+
+/// Files that give eight as most boards, which get the answers of the same files without that field.
+fn eight_boards(tester: &mut Tester) {
+    let draft = Draft { boards: None, ..Draft::sound(&mut tester.random, 64) };
+    let mut fields = draft.fields();
+    let without = fields.concat();
+    fields.insert(tester.random.between(2, fields.len()), boards_field(8));
+    let with = fields.concat();
+    let planned = tester.plan("plan: without most boards", &without);
+    let same = planned == tester.plan("plan: most boards 8", &with);
+    same_answer(tester, same, &with);
+    let mut tried = vec![planned.unwrap_or_default()];
+    if let Ok(read) = read(&without) {
+        if let Some(table) = tables::valid(&mut tester.random, &read) {
+            tried.extend([table.bytes(), tables::broken(&mut tester.random, &read, &table)]);
+        }
+    }
+    for table in tried {
+        let checked = tester.check("check: without most boards", &without, &table);
+        let same = checked == tester.check("check: most boards 8", &with, &table);
+        same_answer(tester, same, &with);
+    }
+}
+
+fn same_answer(tester: &mut Tester, same: bool, file: &[u8]) {
+    let verdict = if same { Ok(()) } else { Err("another answer without most boards".to_string()) };
+    let label = &tester.label;
+    tester.report.case("most boards 8 are as none", verdict, || format!("{label}, file {}", shown(file)));
 }
 
 /// Files that get harder and harder to search, with limits at and near the fewest slots.
 fn hard(tester: &mut Tester) {
     let jobs = tester.random.between(8, 64);
-    for shape in hard::shapes(&mut tester.random, jobs, 100) {
-        let widest = limits::widest(&Graph::new(jobs, &shape.needs));
-        let mut draft = Draft::of_shape(&mut tester.random, &shape, widest.clamp(1, 64) as u8);
+    let boards = drafts::boards(&mut tester.random);
+    let most_boards = boards.unwrap_or(MOST_BOARDS);
+    for shape in hard::shapes(&mut tester.random, jobs, most_boards, 100) {
+        let widest = limits::widest(&Graph::new(jobs, &shape.needs), most_boards);
+        let mut draft = Draft::of_shape(&mut tester.random, &shape, widest.clamp(1, 64) as u8, boards);
         let planned = tester.plan("plan: hard files", &draft.bytes());
         let slots = planned.map_or(draft.limit, |table| table[4]);
         for limit in [slots, slots.saturating_sub(1).max(1)] {
@@ -78,10 +112,12 @@ fn small(tester: &mut Tester) {
 fn without_windows(tester: &mut Tester) {
     let jobs = tester.random.between(7, 8);
     let shape = shapes::any(&mut tester.random, jobs);
-    let limit = limits::near_an_edge(&mut tester.random, &shape).min(jobs as u8 + 1);
-    let file = Draft::of_shape(&mut tester.random, &shape, limit).bytes();
+    let boards = drafts::boards(&mut tester.random);
+    let most_boards = boards.unwrap_or(MOST_BOARDS);
+    let limit = limits::near_an_edge(&mut tester.random, &shape, most_boards).min(jobs as u8 + 1);
+    let file = Draft::of_shape(&mut tester.random, &shape, limit, boards).bytes();
     let planned = tester.plan("plan: small files", &file);
-    let found = search::best_without_windows(&Graph::new(jobs, &shape.needs), limit as i32);
+    let found = search::best_without_windows(&Graph::new(jobs, &shape.needs), limit as i32, most_boards);
     let starts = planned.ok().and_then(|table| starts_of(&table));
     let verdict = if starts == found { Ok(()) } else { Err(format!("planned {starts:?}, without windows {found:?}")) };
     let label = &tester.label;
@@ -101,7 +137,7 @@ fn starts_of(table: &[u8]) -> Option<Vec<usize>> {
 fn all_lists(tester: &mut Tester, file: &[u8], planned: Option<Vec<usize>>) {
     let Ok(read) = read(file) else { return };
     let graph = Graph::new(read.jobs.len(), &read.needs);
-    let best = lists::best_of_all(&graph, read.limit as usize);
+    let best = lists::best_of_all(&graph, read.limit as usize, read.most_boards());
     let verdict = if planned == best { Ok(()) } else { Err(format!("planned {planned:?}, best of all {best:?}")) };
     let label = &tester.label;
     tester.report.case("all start lists", verdict, || format!("{label}, file {}", shown(file)));
@@ -162,8 +198,12 @@ fn try_tables(tester: &mut Tester, file: &[u8], planned: &Result<Vec<u8>, u8>) {
     }
 }
 
-/// A valid table and some that are wrong.
+/// A table for other most boards, a valid table and some that are wrong.
 fn other_tables(tester: &mut Tester, file: &[u8], read: &JobFile) {
+    let other = JobFile { boards: drafts::boards(&mut tester.random), ..read.clone() };
+    if let Some(table) = tables::valid(&mut tester.random, &other) {
+        let _ = tester.check("check: tables for other most boards", file, &table.bytes());
+    }
     let Some(table) = tables::valid(&mut tester.random, read) else { return };
     let _ = tester.check("check: other valid tables", file, &table.bytes());
     let broken = tables::broken(&mut tester.random, read, &table);
@@ -221,7 +261,8 @@ fn damage_at(random: &mut Random, bytes: &mut [u8], at: usize) {
     };
 }
 
-/// All needs between up to so many jobs, with every limit up to one more than the jobs: against all start lists.
+/// All needs between up to so many jobs, with every limit up to one more than the jobs, without most boards and with 1 to
+/// 4: against all start lists.
 pub fn all_small(tester: &mut Tester, most: u8) {
     for jobs in 1..=most {
         let pairs: Vec<(u8, u8)> =
@@ -229,9 +270,10 @@ pub fn all_small(tester: &mut Tester, most: u8) {
         for chosen in 0..1u64 << pairs.len() {
             let needs: Vec<(u8, u8)> =
                 (0..pairs.len()).filter(|at| chosen >> at & 1 == 1).map(|at| pairs[at]).collect();
-            for limit in 1..=jobs + 1 {
-                let file = Draft::plain(limit, jobs as usize, &needs).bytes();
-                tester.label = format!("{jobs} jobs, needs {needs:?}, limit {limit}");
+            let boards = [None, Some(1), Some(2), Some(3), Some(4)];
+            for (limit, boards) in (1..=jobs + 1).flat_map(|limit| boards.map(|boards| (limit, boards))) {
+                let file = Draft { boards, ..Draft::plain(limit, jobs as usize, &needs) }.bytes();
+                tester.label = format!("{jobs} jobs, needs {needs:?}, limit {limit}, most boards {boards:?}");
                 match tester.plan("plan: all small gates", &file) {
                     Err(11) => break,
                     planned => all_lists(tester, &file, planned.ok().and_then(|table| starts_of(&table))),
@@ -251,7 +293,7 @@ pub fn program_p(tester: &mut Tester, seed: u64, count: u64) {
         let graph = Graph::new(draft.jobs.len(), &needs);
         let starts = match random.below(3) {
             0 => (0..draft.jobs.len()).map(|_| random.below(6)).collect(),
-            _ => search::best(&graph, 64).unwrap_or_default(),
+            _ => search::best(&graph, 64, MOST_BOARDS).unwrap_or_default(),
         };
         let starts: Vec<usize> = starts.iter().map(|start| start + random.below(6) / 5).collect();
         let slots = lists::slots(&starts);

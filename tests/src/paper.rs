@@ -1,6 +1,7 @@
-//! The cases that document 01 names, with their answers written out, and others whose answer its text settles.
+//! The cases that document 01 names, with their answers written out, and others whose answer its text settles, or that
+//! of request 13 in document 02.
 
-use crate::generate::drafts::{field, job_field, need_field, Draft};
+use crate::generate::drafts::{boards_field, field, job_field, need_field, Draft};
 use crate::reference::entries::table_of;
 use crate::reference::needs::Graph;
 use crate::reference::reading::read;
@@ -20,6 +21,9 @@ use Answer::{Planned, Refused};
 /// The needs of Figure 1.
 const FIGURE_1: [(u8, u8); 8] = [(1, 3), (1, 4), (1, 5), (2, 5), (3, 6), (4, 6), (5, 7), (5, 8)];
 
+/// The needs of five jobs, which two boards run in three slots if job 1 is held back.
+const FIVE_JOBS: [(u8, u8); 3] = [(2, 3), (3, 4), (5, 4)];
+
 /// The bytes of the printed example, and what the planning program prints for them.
 const PRINTED_FILE: [u8; 36] = [
     1, 1, 0, 1, 2, 1, 0, 3, 3, 3, 0, 15, 0, 97, 3, 3, 0, 241, 255, 98, 3, 3, 0, 4, 0, 99, 4, 2, 0, 1, 3, 4, 2, 0, 2, 3,
@@ -27,7 +31,7 @@ const PRINTED_FILE: [u8; 36] = [
 const PRINTED: &str = "slots 3 boards 2\n1 a 0 1 2\n2 b 0 2 -2\n3 c 2 1 0\n";
 
 pub fn run(tester: &mut Tester) {
-    for (name, file, answer) in planned_cases() {
+    for (name, file, answer) in planned_cases().into_iter().chain(most_boards_cases()) {
         planned(tester, name, &file, answer);
     }
     for (name, draft, width) in widths() {
@@ -38,6 +42,7 @@ pub fn run(tester: &mut Tester) {
     }
     printed_example(tester);
     checked(tester);
+    checked_with_most_boards(tester);
     looked_up(tester);
 }
 
@@ -69,7 +74,7 @@ fn planned_cases() -> Vec<(&'static str, Vec<u8>, Answer)> {
         ("chain of 9, limit 8", chain(8, 9), Refused(13)),
         ("empty file", Vec::new(), Refused(10)),
         ("header and comment only", [header.clone(), field(5, b"x")].concat(), Refused(5)),
-        ("tag 9 first", field(9, &[1]), Refused(4)),
+        ("tag 9 first", boards_field(1), Refused(5)),
         ("tag 3 first", job.clone(), Refused(5)),
         ("chain of 64, limit 64", chain(64, 64), Planned((0..64).collect(), vec![1; 64])),
         ("a 65th job", sixty_five, Refused(7)),
@@ -87,7 +92,7 @@ fn planned_cases() -> Vec<(&'static str, Vec<u8>, Answer)> {
         ("two bytes left over", [sound.clone(), vec![5, 0]].concat(), Refused(3)),
         ("a value cut short", [sound.clone(), vec![5, 1, 0]].concat(), Refused(3)),
         ("a bad 65th job", bad_sixty_fifth, Refused(6)),
-        ("the first bad field decides", [sound.clone(), need_field(1, 1), field(9, &[])].concat(), Refused(8)),
+        ("the first bad field decides", [sound.clone(), need_field(1, 1), field(10, &[])].concat(), Refused(8)),
         ("a need before its job", [header, limit, job.clone(), need_field(1, 2), job].concat(), Refused(8)),
         ("a need with number 0", [sound.clone(), need_field(0, 1)].concat(), Refused(8)),
         ("a need twice", [sound.clone(), need_field(1, 3)].concat(), Refused(9)),
@@ -103,6 +108,58 @@ fn planned_cases() -> Vec<(&'static str, Vec<u8>, Answer)> {
             plain(4, 4, &[(1, 2), (1, 3), (3, 4)]),
             Planned(vec![0, 2, 1, 2], vec![1, 2, 1, 1]),
         ),
+    ]
+}
+
+/// Files with tag 9.
+fn most_boards_cases() -> Vec<(&'static str, Vec<u8>, Answer)> {
+    let plain = |limit, boards, jobs, needs: &[(u8, u8)]| {
+        Draft { boards: Some(boards), ..Draft::plain(limit, jobs, needs) }.bytes()
+    };
+    let five = |limit, boards| plain(limit, boards, 5, &FIVE_JOBS);
+    let (header, limit, job) = (field(1, &[1]), field(2, &[5]), job_field(0, b"a"));
+    let last = |value: &[u8]| [Draft::plain(5, 5, &FIVE_JOBS).bytes(), field(9, value)].concat();
+    let again = |value: &[u8]| [five(5, 2), field(9, value)].concat();
+    let other_tag = |tag| [five(5, 2), field(tag, &[2])].concat();
+    vec![
+        ("five jobs, most boards 1", five(5, 1), Planned(vec![0, 1, 2, 4, 3], vec![1; 5])),
+        ("five jobs, most boards 1, limit 4", five(4, 1), Refused(13)),
+        ("five jobs, most boards 2", five(5, 2), Planned(vec![1, 0, 1, 2, 0], vec![2, 1, 1, 1, 2])),
+        ("five jobs, most boards 2, limit 2", five(2, 2), Refused(13)),
+        ("five jobs, most boards 3", five(5, 3), Planned(vec![0, 0, 1, 2, 0], vec![1, 2, 2, 2, 3])),
+        ("eight jobs, most boards 8", plain(1, 8, 8, &[]), Planned(vec![0; 8], (1..=8).collect())),
+        ("eight jobs, most boards 7", plain(1, 7, 8, &[]), Refused(13)),
+        ("nine jobs, most boards 1", plain(1, 1, 9, &[]), Refused(12)),
+        ("a circle, most boards 1", plain(5, 1, 2, &[(1, 2), (2, 1)]), Refused(11)),
+        (
+            "most boards before all jobs",
+            [&header[..], &limit, &boards_field(1), &job, &job].concat(),
+            Planned(vec![0, 1], vec![1, 1]),
+        ),
+        (
+            "most boards between jobs",
+            [&header[..], &limit, &job, &boards_field(1), &job].concat(),
+            Planned(vec![0, 1], vec![1, 1]),
+        ),
+        ("most boards and no job", [&header[..], &limit, &boards_field(1)].concat(), Refused(10)),
+        ("tag 9 second", [&header[..], &boards_field(2), &limit, &job].concat(), Refused(5)),
+        ("tag 9 first, with a bad value", boards_field(0), Refused(5)),
+        ("most boards 0", last(&[0]), Refused(6)),
+        ("most boards 9", last(&[9]), Refused(6)),
+        ("most boards 255", last(&[255]), Refused(6)),
+        ("most boards of no byte", last(&[]), Refused(6)),
+        ("most boards of two bytes", last(&[2, 2]), Refused(6)),
+        ("most boards twice", again(&[3]), Refused(21)),
+        ("the same most boards twice", again(&[2]), Refused(21)),
+        ("most boards again, with a bad value", again(&[9]), Refused(6)),
+        ("most boards again, of two bytes", again(&[2, 2]), Refused(6)),
+        ("most boards twice before a bad field", [again(&[2]), field(10, &[])].concat(), Refused(21)),
+        ("most boards twice and no job", [header, limit, boards_field(2), boards_field(2)].concat(), Refused(21)),
+        ("most boards twice in a circle", [plain(5, 1, 2, &[(1, 2), (2, 1)]), boards_field(1)].concat(), Refused(21)),
+        ("tag 6", other_tag(6), Refused(4)),
+        ("tag 7", other_tag(7), Refused(4)),
+        ("tag 8", other_tag(8), Refused(4)),
+        ("tag 10", other_tag(10), Refused(4)),
     ]
 }
 
@@ -165,6 +222,28 @@ fn checked(tester: &mut Tester) {
     checks(tester, "a table for a file that is too wide to plan", &wide.bytes(), &table, Ok(()));
     checks(tester, "an empty table", &wide.bytes(), &[], Err(14));
     checks(tester, "a circle comes before the table", &Draft::plain(4, 2, &[(1, 2), (2, 1)]).bytes(), &[], Err(11));
+}
+
+/// The same needs and limit with most boards: how many, starts and boards of the three jobs, and what the check says.
+fn checked_with_most_boards(tester: &mut Tester) {
+    let draft = Draft::plain(4, 3, &[(1, 3), (2, 3)]);
+    let cases: [(&'static str, u8, [u8; 3], [u8; 3], Passes); 7] = [
+        ("as many boards as most boards", 2, [0, 0, 2], [1, 2, 1], Ok(())),
+        ("more boards than most boards", 1, [0, 0, 2], [1, 2, 1], Err(16)),
+        ("few jobs, and a board beyond most boards", 2, [0, 1, 3], [1, 1, 3], Err(16)),
+        ("one board", 1, [0, 1, 2], [1, 1, 1], Ok(())),
+        ("one board, beyond the limit", 1, [0, 1, 4], [1, 1, 1], Err(16)),
+        ("board 9, most boards 8", 8, [0, 0, 2], [1, 9, 1], Err(16)),
+        ("one slot across boards, most boards 2", 2, [0, 1, 2], [1, 1, 2], Err(18)),
+    ];
+    for (name, most_boards, starts, boards, answer) in cases {
+        let file = Draft { boards: Some(most_boards), ..draft.clone() }.bytes();
+        let read = read(&file).expect("a sound file");
+        let table = table_of(&read, &starts.map(usize::from), &boards).bytes();
+        checks(tester, name, &file, &table, answer);
+    }
+    let twice = [draft.bytes(), boards_field(3), boards_field(3)].concat();
+    checks(tester, "most boards twice comes before the table", &twice, &[], Err(21));
 }
 
 /// What check and lookup answer.

@@ -1,20 +1,24 @@
--- The candidates of a slot by membership, and the exact subsets by what each tying job has in them. Assumes nothing.
+-- The candidates of a slot by membership, and the subsets that it tries by what each tying job has in them. Assumes nothing.
 use mathlib.Core.Path.{_≡_, refl, sym, _∙_}
-use mathlib.Core.Logic.{_↔_, Iff·trans}
+use mathlib.Core.Logic.{_⊎_, inr, _↔_, Iff·trans}
 use mathlib.Core.Bool.{Bool, true, false, _&&_, _||_, and-eq-true-iff, or-false, or-assoc, false≢true}
 use mathlib.Core.List.{List, [], _∷_}
-use Prim.Native.Nat.{ℕ, _<_}
+use Prim.Native.Nat.{ℕ, _+_, _^_, _≤_, _<_}
+use native.Mathlib.Omega.{arith}
 use borrow.Author.Tests.{eq-eqb, eqb-true}
-use lib.Dec.{T, eqb}
-use Rattle.rules.specs.Basics.{choose, all, any}
-use Rattle.laws.specs.Tests.{T-all, T-any, T-true}
+use lib.Dec.{T, leb, eqb}
+use Rattle.rules.specs.Basics.{choose, imp, all, any, count}
+use Rattle.laws.specs.Tests.{T-all, T-any, T-true, by-choice}
+use Rattle.laws.specs.Counting.{count-most}
 use Rattle.jobset.specs.declared.Set.{Set}
-use Rattle.jobset.specs.Sets.{setAt, member, intersection, isSubset, isEmpty, isOne, members, Subset}
-use Rattle.jobset.specs.Membership.{member-empty, member-with, member-union}
-use Rattle.jobset.specs.Members.{in-members}
-use Rattle.jobset.specs.Inclusion.{is-subset}
+use Rattle.jobset.specs.Sets.{setAt, member, intersection, isSubset, isEmpty, isOne, size, members, Subset}
+use Rattle.jobset.specs.Upper.{empty-size, one-size, upper-subset, upper-above}
+use Rattle.jobset.specs.Membership.{member-empty, member-with, member-union, in-union}
+use Rattle.jobset.specs.Members.{members-passing, in-members}
+use Rattle.jobset.specs.Size.{size-members}
+use Rattle.jobset.specs.Inclusion.{subset-refl, is-subset}
 use Rattle.explore.specs.declared.Candidates.{Candidates}
-use Rattle.explore.specs.Slot.{Tables, isForced, isTied, sortJob, sortJobs, noCandidates, candidatesOf, exact, allowed}
+use Rattle.explore.specs.Slot.{Tables, isForced, isTied, sortJob, sortJobs, noCandidates, candidatesOf, seated, suits, served, sized, chosen, allowed, fitted}
 
 -- ---- the candidates
 
@@ -112,23 +116,95 @@ module _ (done last : Set) where
             ↔ ((i : ℕ) × ((i < 64) × (member free i ≡ true)) × ((isTied done last (setAt givers i) && member (intersection (setAt givers i) last) x) ≡ true))
         sums = in-sorted givers (λ c. c .tying) (λ i g x. isTied done last g && member (intersection g last) x) sort-tying free x (member-empty x)
 
--- ---- exact: each tying job has exactly one taker in the subset
+-- ---- sizes
 
-pub exact-iff : (takers : List ℕ) (tying subset : Set)
-    → (exact takers tying subset ≡ true) ↔ ((j : ℕ) → j < 64 → member tying j ≡ true → isOne (intersection subset (setAt takers j)) ≡ true)
-unfolding exact
-exact-iff takers tying subset = (
-  λ h j l m. T-true (one-taker j) .0 (T-all one-taker (members tying) .0 (T-true (all one-taker (members tying)) .1 h) j (in-members tying j .1 (l, m))),
-  λ f. T-true (all one-taker (members tying)) .0 (T-all one-taker (members tying) .1 (λ j m. let w = in-members tying j .0 m in T-true (one-taker j) .1 (f j (w .0) (w .1)))),
+-- a set has at most 64 members
+pub size-few : (s : Set) → s .bits < 2 ^ 64 → size s ≤ 64
+size-few s h = rw (size-members s h, members-passing s) (unfold count in count-most (member s) 64)
+
+-- ---- seated: what is there was a candidate
+
+pub seated-forced : (cap : ℕ) (c : Candidates) (x : ℕ) → member (seated cap c .forced) x ≡ true → member (c .forced) x ≡ true
+unfolding seated
+seated-forced cap c x =
+    by-choice (λ (d : Candidates). member (d .forced) x ≡ true → member (c .forced) x ≡ true) (leb (size (c .forced) + size (c .tying)) cap)
+    (λ _ m. m) (λ _ m. absurd (false≢true (sym (member-empty x) ∙ m)))
+
+pub seated-tied : (cap : ℕ) (c : Candidates) (x : ℕ) → member (seated cap c .tied) x ≡ true → (member (c .forced) x ≡ true) ⊎ (member (c .tied) x ≡ true)
+unfolding seated
+seated-tied cap c x =
+    by-choice (λ (d : Candidates). member (d .tied) x ≡ true → (member (c .forced) x ≡ true) ⊎ (member (c .tied) x ≡ true)) (leb (size (c .forced) + size (c .tying)) cap)
+    (λ _ m. inr m) (λ _ m. in-union (c .forced) (c .tied) x .0 m)
+
+-- the candidates as they are found are those of a slot that is not full
+sort-open : (done last : Set) (i : ℕ) (g : Set) (c : Candidates) → sortJob done last i g c .full ≡ c .full
+unfolding sortJob
+sort-open done last i g c =
+    by-choice (λ (d : Candidates). d .full ≡ c .full) (isForced done last g) (λ _. refl)
+    (λ _. by-choice (λ (d : Candidates). d .full ≡ c .full) (isTied done last g) (λ _. refl) (λ _. refl))
+
+sorted-open : (givers : List ℕ) (done last : Set) (is : List ℕ) (c : Candidates) → c .full ≡ false → sortJobs givers done last c is .full ≡ false
+unfolding sortJobs
+sorted-open givers done last [] c e = e
+sorted-open givers done last (i ∷ is) c e = sorted-open givers done last is (sortJob done last i (setAt givers i) c) (sort-open done last i (setAt givers i) c ∙ e)
+
+pub found-open : (givers : List ℕ) (free done last : Set) → candidatesOf givers free done last .full ≡ false
+unfolding candidatesOf
+found-open givers free done last = sorted-open givers done last (members free) noCandidates refl
+
+-- ---- suits: exactly one, or at most one
+
+pub suits-one : (s : Set) → suits false s ≡ isOne s
+unfolding suits isOne choose
+suits-one s = go (isEmpty s) refl
+  where
+    go : (b : Bool) → isEmpty s ≡ b → choose b false (isOne s) ≡ isOne s
+    go true e = rw e
+    go false e = refl
+
+pub suits-few : (s : Set) → suits true s ≡ leb (size s) 1
+unfolding suits choose
+suits-few s = go (isEmpty s) refl
+  where
+    go : (b : Bool) → isEmpty s ≡ b → choose b true (isOne s) ≡ leb (size s) 1
+    go true e = let z : size s ≡ 0 = eqb-true (size s) 0 (sym (empty-size s) ∙ e) in rw z refl
+    go false e = one-size s e
+
+-- ---- served: each tying job has takers that suit in the subset
+
+pub served-iff : (takers : List ℕ) (tying : Set) (full : Bool) (subset : Set)
+    → (served takers tying full subset ≡ true) ↔ ((j : ℕ) → j < 64 → member tying j ≡ true → suits full (intersection subset (setAt takers j)) ≡ true)
+unfolding served
+served-iff takers tying full subset = (
+  λ h j l m. T-true (suited j) .0 (T-all suited (members tying) .0 (T-true (all suited (members tying)) .1 h) j (in-members tying j .1 (l, m))),
+  λ f. T-true (all suited (members tying)) .0 (T-all suited (members tying) .1 (λ j m. let w = in-members tying j .0 m in T-true (suited j) .1 (f j (w .0) (w .1)))),
 )
   where
-    one-taker : ℕ → Bool
-    one-taker j = isOne (intersection subset (setAt takers j))
+    suited : ℕ → Bool
+    suited j = suits full (intersection subset (setAt takers j))
 
--- allowed: a subset of the tied jobs that is exact
-pub allowed-iff : (T : Tables) (c : Candidates) (subset : Set) → (allowed T c subset ≡ true) ↔ (Subset subset (c .tied) × (exact (T .takers) (c .tying) subset ≡ true))
-unfolding allowed
+-- allowed: a subset of the tied jobs that is chosen
+pub allowed-iff : (T : Tables) (c : Candidates) (subset : Set)
+    → (allowed T c subset ≡ true) ↔ (Subset subset (c .tied) × (sized (c .full) (T .cap) subset ≡ true) × (served (T .takers) (c .tying) (c .full) subset ≡ true))
+unfolding allowed chosen
 allowed-iff T c subset = (
-  λ h. let w = and-eq-true-iff (isSubset subset (c .tied)) (exact (T .takers) (c .tying) subset) .0 h in (is-subset subset (c .tied) .0 (w .0), w .1),
-  λ h. and-eq-true-iff (isSubset subset (c .tied)) (exact (T .takers) (c .tying) subset) .1 (is-subset subset (c .tied) .1 (h .0), h .1),
+  λ h.
+      let w = and-eq-true-iff (isSubset subset (c .tied)) _ .0 h in
+      let v = and-eq-true-iff (sized (c .full) (T .cap) subset) (served (T .takers) (c .tying) (c .full) subset) .0 (w .1) in
+      (is-subset subset (c .tied) .0 (w .0), v .0, v .1),
+  λ h.
+      let v = and-eq-true-iff (sized (c .full) (T .cap) subset) (served (T .takers) (c .tying) (c .full) subset) .1 (h .1, h .2) in
+      and-eq-true-iff (isSubset subset (c .tied)) _ .1 (is-subset subset (c .tied) .1 (h .0), v),
 )
+
+-- ---- fitted: no set of the right size lies between it and the set
+
+pub fitted-subset : (full : Bool) (cap : ℕ) (s : Set) → Subset (fitted full cap s) s
+unfolding fitted choose
+fitted-subset true cap s = upper-subset cap s
+fitted-subset false cap s = subset-refl s
+
+pub fitted-above : (full : Bool) (cap : ℕ) (s t : Set) → sized full cap t ≡ true → t .bits ≤ s .bits → t .bits ≤ fitted full cap s .bits
+unfolding fitted sized choose imp
+fitted-above true cap s t e l = upper-above cap s t l (omega (arith, eqb-true (size t) cap e))
+fitted-above false cap s t e l = l

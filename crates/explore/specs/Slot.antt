@@ -1,28 +1,30 @@
 -- One slot of the search: the tables of a job file, the jobs whose windows hold a slot, the candidates. Assumes nothing.
 use mathlib.Core.Path.{_≡_, ap₂}
-use mathlib.Core.Bool.{Bool, _&&_}
+use mathlib.Core.Bool.{Bool, true, false, _&&_}
 use mathlib.Core.List.{List, [], _∷_}
 use Prim.Native.Nat.{ℕ, _+_, _<_}
-use Rattle.rules.specs.Basics.{choose, all}
+use lib.Dec.{leb, eqb}
+use Rattle.rules.specs.Basics.{choose, imp, all}
 use Rattle.jobset.specs.declared.Set.{Set}
-use Rattle.jobset.specs.Sets.{setAt, empty, with, union, minus, intersection, isSubset, isEmpty, isOne, members}
+use Rattle.jobset.specs.Sets.{setAt, empty, with, union, minus, intersection, isSubset, isEmpty, isOne, size, upper, members}
 use Rattle.jobset.specs.Arrays.{giversIn, takersIn, releasedIn, followedIn, released-set, followed-set}
 use Rattle.explore.specs.declared.Candidates.{Candidates}
 
 -- what the search knows of a job file, all as sets of places: the givers and the takers of each job,
--- released s: the jobs with a release below s, followed k: the jobs with a tail of at least k (so followed 0 is all jobs)
+-- released s: the jobs with a release below s, followed k: the jobs with a tail of at least k (so followed 0 is all jobs); and the most jobs of a slot
 pub record Tables : Type 0 where
   pub givers : List ℕ
   pub takers : List ℕ
   pub released : List ℕ
   pub followed : List ℕ
+  pub cap : ℕ
 
-abbrev pub tables : List ℕ → List ℕ → List ℕ → List ℕ → Tables
-tables givers takers released followed = record { givers = givers; takers = takers; released = released; followed = followed }
+abbrev pub tables : List ℕ → List ℕ → List ℕ → List ℕ → ℕ → Tables
+tables givers takers released followed cap = record { givers = givers; takers = takers; released = released; followed = followed; cap = cap }
 
 -- the tables that are parts of one array
-abbrev pub tablesIn : List ℕ → Tables
-tablesIn sets = tables (giversIn sets) (takersIn sets) (releasedIn sets) (followedIn sets)
+abbrev pub tablesIn : ℕ → List ℕ → Tables
+tablesIn cap sets = tables (giversIn sets) (takersIn sets) (releasedIn sets) (followedIn sets) cap
 
 -- ---- the windows, at a slot with `left` slots left, itself among them
 
@@ -55,33 +57,55 @@ isTied done last givers = isSubset givers done && isOne (intersection givers las
 -- one more job, with its givers: a candidate if forced or tied; the giver that a tied one has in the slot before is tying
 unfoldable pub sortJob : Set → Set → ℕ → Set → Candidates → Candidates
 sortJob done last i givers c =
-    choose (isForced done last givers) (record { forced = with (c .forced) i; tied = c .tied; tying = c .tying })
-    (choose (isTied done last givers) (record { forced = c .forced; tied = with (c .tied) i; tying = union (c .tying) (intersection givers last) }) c)
+    choose (isForced done last givers) (record { forced = with (c .forced) i; tied = c .tied; tying = c .tying; full = c .full })
+    (choose (isTied done last givers) (record { forced = c .forced; tied = with (c .tied) i; tying = union (c .tying) (intersection givers last); full = c .full }) c)
 
 unfoldable pub sortJobs : List ℕ → Set → Set → Candidates → List ℕ → Candidates
 sortJobs givers done last c [] = c
 sortJobs givers done last c (i ∷ is) = sortJobs givers done last (sortJob done last i (setAt givers i) c) is
 
 abbrev pub noCandidates : Candidates
-noCandidates = record { forced = empty; tied = empty; tying = empty }
+noCandidates = record { forced = empty; tied = empty; tying = empty; full = false }
 
 -- the candidates among the jobs `free`
 unfoldable pub candidatesOf : List ℕ → Set → Set → Set → Candidates
 candidatesOf givers free done last = sortJobs givers done last noCandidates (members free)
 
--- the candidates of a slot
+-- all that is forced with one taker for each tying job is no more than the slot takes; or the slot is full, and any cap of both are tried
+unfoldable pub seated : ℕ → Candidates → Candidates
+seated cap c = choose (leb (size (c .forced) + size (c .tying)) cap) c (record { forced = empty; tied = union (c .forced) (c .tied); tying = c .tying; full = true })
+
+-- the candidates of a slot, and those seated
+unfoldable pub candidatesIn : Tables → ℕ → ℕ → Set → Set → Candidates
+candidatesIn T left slot done last = candidatesOf (T .givers) (minus (windowOf (T .released) (T .followed) left slot) done) done last
+
 unfoldable pub candidatesAt : Tables → ℕ → ℕ → Set → Set → Candidates
-candidatesAt T left slot done last = candidatesOf (T .givers) (minus (windowOf (T .released) (T .followed) left slot) done) done last
+candidatesAt T left slot done last = seated (T .cap) (candidatesIn T left slot done last)
 
 -- ---- what may run in the slot: the forced jobs and an allowed subset of the tied ones
 
--- each tying job has exactly one taker in the subset
-unfoldable pub exact : List ℕ → Set → Set → Bool
-exact takers tying subset = all (λ i. isOne (intersection subset (setAt takers i))) (members tying)
+-- just one job is there; in a full slot it may be none
+unfoldable pub suits : Bool → Set → Bool
+suits full near = choose (isEmpty near) full (isOne near)
 
--- a subset of the tied jobs with exactly one taker of each tying job
+-- so many takers has each tying job in the subset
+unfoldable pub served : List ℕ → Set → Bool → Set → Bool
+served takers tying full subset = all (λ i. suits full (intersection subset (setAt takers i))) (members tying)
+
+-- a full slot gets as many jobs as it takes
+unfoldable pub sized : Bool → ℕ → Set → Bool
+sized full cap subset = imp full (eqb (size subset) cap)
+
+unfoldable pub chosen : List ℕ → Set → Bool → ℕ → Set → Bool
+chosen takers tying full cap subset = sized full cap subset && served takers tying full subset
+
+-- such a subset of the tied jobs
 unfoldable pub allowed : Tables → Candidates → Set → Bool
-allowed T c subset = isSubset subset (c .tied) && exact (T .takers) (c .tying) subset
+allowed T c subset = isSubset subset (c .tied) && chosen (T .takers) (c .tying) (c .full) (T .cap) subset
+
+-- where the slot is full, no set with more jobs than it takes need be looked at
+unfoldable pub fitted : Bool → ℕ → Set → Set
+fitted full cap subset = choose full (upper cap subset) subset
 
 -- the jobs of the slot, for the subset of the tied ones with number n
 unfoldable pub slotSet : Candidates → ℕ → Set

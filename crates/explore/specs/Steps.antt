@@ -3,20 +3,23 @@
 use mathlib.Core.Path.{_≡_, refl, sym, ap, ap₂, _∙_}
 use mathlib.Core.Bool.{Bool, true, false, not, true≢false}
 use mathlib.Core.List.{List}
-use Prim.Native.Nat.{ℕ, zero, suc, _+_, _-_, _<_}
+use Prim.Native.Nat.{ℕ, zero, suc, _+_, _-_, _<_, _≤_}
 use native.Mathlib.Numerals.{add-one}
 use native.Mathlib.Omega.{arith}
+use native.Mathlib.Decide.{decLt}
 use borrow.Author.Tests.{eqb-true, eqb-false}
+use lib.ListN.{length}
 use Rattle.rules.specs.Basics.{choose}
 use Rattle.laws.specs.Tests.{by-choice}
 use Rattle.jobset.specs.declared.Set.{Set}
 use Rattle.jobset.specs.Sets.{union, isSubset, isEmpty, nextBelow, Subset}
-use Rattle.jobset.specs.Inclusion.{is-subset}
-use Rattle.jobset.specs.FallingSubsets.{no-subset-between, next-less}
+use Rattle.jobset.specs.Inclusion.{is-subset, subset-le, subset-trans}
+use Rattle.jobset.specs.FallingSubsets.{no-subset-between, next-less, next-subset}
 use Rattle.bitmap.specs.Marks.{isMarked, withMark}
 use Rattle.explore.specs.declared.Candidates.{Candidates}
-use Rattle.explore.specs.Slot.{Tables, dueAt, candidatesAt, exact, allowed, slotSet}
-use Rattle.explore.specs.Model.{Plan, noPlan, finished, slotThen, isDone, key, Explored, atOnce, hit, missThen, opening, exploreBelow, explored}
+use Rattle.explore.specs.Slot.{Tables, dueAt, candidatesAt, chosen, allowed, fitted, slotSet}
+use Rattle.explore.specs.CandidateLaws.{allowed-iff, fitted-subset, fitted-above}
+use Rattle.explore.specs.Model.{Plan, noPlan, finished, slotThen, written, isDone, key, Explored, atOnce, hit, missThen, opening, exploreBelow, explored}
 
 -- ---- at a state
 
@@ -42,6 +45,17 @@ after-suc T n slot = ap₂ (λ (m s : ℕ). λ (done last : Set) (dead : List �
 -- the tries of a slot, by numbers below n
 unfoldable pub tries : Tables → ℕ → ℕ → Set → Candidates → ℕ → List ℕ → Explored
 tries T left slot done c n dead = exploreBelow (after T left slot) T done c n dead
+
+-- all tries of a slot
+abbrev pub slotTries : Tables → ℕ → ℕ → Set → Candidates → List ℕ → Explored
+slotTries T left slot done c dead = tries T left slot done c (suc (c .tied .bits)) dead
+
+-- one try: where the subset is chosen, its jobs run in the slot, and what follows has a plan or none
+unfoldable pub attempted : Tables → ℕ → ℕ → Set → Candidates → Set → List ℕ → Explored
+attempted T left slot done c subset dead =
+    let jobs = slotSet c (subset .bits) in
+    let e = after T left slot (union done jobs) jobs dead in
+    choose (chosen (T .takers) (c .tying) (c .full) (T .cap) subset) (choose (e .plan .ok) (hit jobs e) (atOnce noPlan (e .dead))) (atOnce noPlan dead)
 
 module _ (T : Tables) (slot : ℕ) (done last : Set) (dead : List ℕ) where
   abbrev keyAt : ℕ → ℕ
@@ -74,23 +88,34 @@ module _ (T : Tables) (slot : ℕ) (done last : Set) (dead : List ℕ) where
 
 -- ---- at a subset of the tied jobs
 
+-- an answer without a plan has no sets
+abbrev pub Empty : Explored → Type 0
+Empty e = e .plan .ok ≡ false → e .plan ≡ noPlan
+
 -- the same answer and the same bitmap
 pub record Same (x y : Explored) : Type 0 where
   pub plan : x .plan ≡ y .plan
   pub dead : x .dead ≡ y .dead
+
+pub same-trans : {x y z : Explored} → Same x y → Same y z → Same x z
+same-trans a b = record { plan = a .plan ∙ b .plan; dead = a .dead ∙ b .dead }
 
 -- how many numbers are still to be tried
 unfoldable pub count : Bool → Set → ℕ
 count more subset = choose more (suc (subset .bits)) 0
 
 -- fewer after each try
-pub count-less : (subset tied : Set) → count (not (isEmpty subset)) (nextBelow subset tied) < count true subset
+pub count-less : (full : Bool) (cap : ℕ) (subset tied : Set) → count (not (isEmpty subset)) (fitted full cap (nextBelow subset tied)) < count true subset
 unfolding count choose isEmpty
-count-less subset tied = go (isEmpty subset) refl
+count-less full cap subset tied = go (isEmpty subset) refl
   where
-    go : (b : Bool) → isEmpty subset ≡ b → count (not b) (nextBelow subset tied) < suc (subset .bits)
+    next : Set
+    next = nextBelow subset tied
+
+    go : (b : Bool) → isEmpty subset ≡ b → count (not b) (fitted full cap next) < suc (subset .bits)
     go true e = omega arith
-    go false e = omega (arith, next-less subset tied (omega (arith, eqb-false (subset .bits) 0 e)))
+    go false e =
+        omega (arith, subset-le (fitted full cap next) next (fitted-subset full cap next), next-less subset tied (omega (arith, eqb-false (subset .bits) 0 e)))
 
 module _ (T : Tables) (left slot : ℕ) (done : Set) (c : Candidates) where
   -- what follows the subset
@@ -102,92 +127,149 @@ module _ (T : Tables) (left slot : ℕ) (done : Set) (c : Candidates) where
 
   -- the numbers from the next subset down
   abbrev pub nextCount : Set → ℕ
-  nextCount subset = count (not (isEmpty subset)) (nextBelow subset (c .tied))
+  nextCount subset = count (not (isEmpty subset)) (fitted (c .full) (T .cap) (nextBelow subset (c .tied)))
 
-  -- a subset of the tied jobs is allowed where it is exact
-  pub allowed-exact : (subset : Set) → Subset subset (c .tied) → allowed T c subset ≡ exact (T .takers) (c .tying) subset
+  -- a subset of the tied jobs is allowed where it is chosen
+  pub allowed-chosen : (subset : Set) → Subset subset (c .tied) → allowed T c subset ≡ chosen (T .takers) (c .tying) (c .full) (T .cap) subset
   unfolding allowed
-  allowed-exact subset w = rw (is-subset subset (c .tied) .1 w)
+  allowed-chosen subset w = rw (is-subset subset (c .tied) .1 w)
 
   skip : (n : ℕ) (dead : List ℕ) → allowed T c (record { bits = n }) ≡ false → triesBelow (suc n) dead ≡ triesBelow n dead
   unfolding tries exploreBelow choose
   skip n dead e = rw (e)
 
-  -- numbers that are no subset of the tied jobs are passed over
-  fall : (q k : ℕ) (dead : List ℕ) → ((n : ℕ) → q < n → n < k + suc q → isSubset (record { bits = n }) (c .tied) ≡ false) → triesBelow (k + suc q) dead ≡ triesBelow (suc q) dead
-  unfolding allowed
+  -- numbers that are not allowed are passed over
+  fall : (q k : ℕ) (dead : List ℕ) → ((n : ℕ) → q < n → n < k + suc q → allowed T c (record { bits = n }) ≡ false) → triesBelow (k + suc q) dead ≡ triesBelow (suc q) dead
   fall q zero dead h = ap (λ (n : ℕ). triesBelow n dead) (omega arith)
   fall q (suc k) dead h =
       ap (λ (n : ℕ). triesBelow n dead) (omega arith)
-      ∙ skip (k + suc q) dead (rw (h (k + suc q) (omega arith) (omega arith)))
+      ∙ skip (k + suc q) dead (h (k + suc q) (omega arith) (omega arith))
       ∙ fall q k dead (λ n a b. h n a (omega arith))
+
+  -- from a set on, where none is allowed between it and q
+  fall-to : (s q : ℕ) (dead : List ℕ) → q < s → ((n : ℕ) → allowed T c (record { bits = n }) ≡ true → n < s → n ≤ q) → triesBelow s dead ≡ triesBelow (suc q) dead
+  fall-to s q dead l h =
+      ap (λ (n : ℕ). triesBelow n dead) (let e : s ≡ s - suc q + suc q = omega arith in e)
+      ∙ fall q (s - suc q) dead (λ n a b. not-allowed n a (omega arith) (allowed T c (record { bits = n })) refl)
+    where
+      not-allowed : (n : ℕ) → q < n → n < s → (b : Bool) → allowed T c (record { bits = n }) ≡ b → b ≡ false
+      not-allowed n a b true e = absurd (omega (arith, h n e b))
+      not-allowed n a b false e = refl
+
+  -- the numbers from a set down are those from the fitted one
+  pub from-fitted : (s : Set) (dead : List ℕ) → triesBelow (suc (s .bits)) dead ≡ triesBelow (suc (fitted (c .full) (T .cap) s .bits)) dead
+  from-fitted s dead =
+      let f = fitted (c .full) (T .cap) s in
+      fall-to (suc (s .bits)) (f .bits) dead (omega (arith, subset-le f s (fitted-subset (c .full) (T .cap) s)))
+      (λ n a l. fitted-above (c .full) (T .cap) s (record { bits = n }) (allowed-iff T c (record { bits = n }) .0 a .1) (omega arith))
 
   -- below a subset the next one is the first that is tried
   next : (subset : Set) (dead : List ℕ) → Subset subset (c .tied) → triesBelow (subset .bits) dead ≡ triesBelow (nextCount subset) dead
   unfolding count choose isEmpty
   next subset dead w = go (isEmpty subset) refl
     where
-      go : (b : Bool) → isEmpty subset ≡ b → triesBelow (subset .bits) dead ≡ triesBelow (count (not b) (nextBelow subset (c .tied))) dead
+      below : Set
+      below = nextBelow subset (c .tied)
+
+      between : (n : ℕ) → allowed T c (record { bits = n }) ≡ true → n < subset .bits → Dec (below .bits < n) → n ≤ below .bits
+      between n a l (no h) = omega arith
+      between n a l (yes h) =
+          let k = is-subset (record { bits = n }) (c .tied) .1 (allowed-iff T c (record { bits = n }) .0 a .0) in
+          absurd (true≢false (sym k ∙ no-subset-between subset (c .tied) n w h l))
+
+      go : (b : Bool) → isEmpty subset ≡ b → triesBelow (subset .bits) dead ≡ triesBelow (count (not b) (fitted (c .full) (T .cap) below)) dead
       go true e = ap (λ (n : ℕ). triesBelow n dead) (eqb-true (subset .bits) 0 e)
       go false e =
-          let q : ℕ = nextBelow subset (c .tied) .bits in
-          let l : q < subset .bits = next-less subset (c .tied) (omega (arith, eqb-false (subset .bits) 0 e)) in
-          let k : ℕ = subset .bits - suc q in
-          let s : subset .bits ≡ k + suc q = omega arith in
-          ap (λ (n : ℕ). triesBelow n dead) s ∙ fall q k dead (λ n a b. no-subset-between subset (c .tied) n w a (omega arith))
+          fall-to (subset .bits) (below .bits) dead (next-less subset (c .tied) (omega (arith, eqb-false (subset .bits) 0 e))) (λ n a l. between n a l (decLt (below .bits) n))
+          ∙ from-fitted below dead
 
-  -- a subset that is not allowed
-  pub try-skip : (subset : Set) (dead : List ℕ) → Subset subset (c .tied) → allowed T c subset ≡ false → triesBelow (nextCount subset) dead ≡ triesBelow (suc (subset .bits)) dead
-  try-skip subset dead w e = sym (skip (subset .bits) dead e ∙ next subset dead w)
+  -- a try that leads on ends the tries
+  pub tried-on : (subset : Set) (dead : List ℕ) → Subset subset (c .tied) → attempted T left slot done c subset dead .plan .ok ≡ true
+      → Same (attempted T left slot done c subset dead) (triesBelow (suc (subset .bits)) dead)
+  unfolding tries exploreBelow attempted choose
+  tried-on subset dead w = go (chosen (T .takers) (c .tying) (c .full) (T .cap) subset) refl (afterSubset subset dead .plan .ok) refl
+    where
+      go : (a : Bool) → chosen (T .takers) (c .tying) (c .full) (T .cap) subset ≡ a → (b : Bool) → afterSubset subset dead .plan .ok ≡ b → attempted T left slot done c subset dead .plan .ok ≡ true
+          → Same (attempted T left slot done c subset dead) (triesBelow (suc (subset .bits)) dead)
+      go true p true q h = rw (allowed-chosen subset w, p, q) (record { plan = refl; dead = refl })
+      go true p false q h = absurd (true≢false (sym h ∙ rw (p, q)))
+      go false p b q h = absurd (true≢false (sym h ∙ rw p))
 
-  -- a subset that leads on
-  pub try-hit : (subset : Set) (dead : List ℕ) → allowed T c subset ≡ true → afterSubset subset dead .plan .ok ≡ true
-      → triesBelow (suc (subset .bits)) dead ≡ hit (slotSet c (subset .bits)) (afterSubset subset dead)
-  unfolding tries exploreBelow choose
-  try-hit subset dead a e = rw (a, e)
-
-  miss : (n : ℕ) (dead : List ℕ) → allowed T c (record { bits = n }) ≡ true → afterSubset (record { bits = n }) dead .plan .ok ≡ false
-      → triesBelow (suc n) dead ≡ missThen (afterSubset (record { bits = n }) dead) (triesBelow n (afterSubset (record { bits = n }) dead .dead))
-  unfolding tries exploreBelow choose
-  miss n dead a e = rw (a, e)
-
-  -- a subset that leads to nothing: on with the bitmap that it left
-  pub try-miss : (subset : Set) (dead : List ℕ) → Subset subset (c .tied) → allowed T c subset ≡ true → afterSubset subset dead .plan .ok ≡ false
-      → Same (triesBelow (nextCount subset) (afterSubset subset dead .dead)) (triesBelow (suc (subset .bits)) dead)
-  unfolding missThen
-  try-miss subset dead w a e = rw (miss (subset .bits) dead a e, ← (next subset (afterSubset subset dead .dead) w)) (record { plan = refl; dead = refl })
+  -- one that does not goes on to the next
+  pub tried-none : (subset : Set) (dead : List ℕ) → Subset subset (c .tied) → attempted T left slot done c subset dead .plan .ok ≡ false
+      → Same (triesBelow (nextCount subset) (attempted T left slot done c subset dead .dead)) (triesBelow (suc (subset .bits)) dead)
+  unfolding tries exploreBelow attempted choose missThen hit slotThen
+  tried-none subset dead w = go (chosen (T .takers) (c .tying) (c .full) (T .cap) subset) refl (afterSubset subset dead .plan .ok) refl
+    where
+      go : (a : Bool) → chosen (T .takers) (c .tying) (c .full) (T .cap) subset ≡ a → (b : Bool) → afterSubset subset dead .plan .ok ≡ b → attempted T left slot done c subset dead .plan .ok ≡ false
+          → Same (triesBelow (nextCount subset) (attempted T left slot done c subset dead .dead)) (triesBelow (suc (subset .bits)) dead)
+      go true p true q h = absurd (true≢false (rw (p, q) at h))
+      go true p false q h = rw (allowed-chosen subset w, p, q, ← (next subset (afterSubset subset dead .dead) w)) (record { plan = refl; dead = refl })
+      go false p b q h = rw (allowed-chosen subset w, p, ← (next subset dead w)) (record { plan = refl; dead = refl })
 
   -- no number is left
-  pub try-none : (subset : Set) (dead : List ℕ) → triesBelow (count false subset) dead ≡ atOnce noPlan dead
+  pub tried-all : (subset : Set) (dead : List ℕ) → triesBelow (count false subset) dead ≡ atOnce noPlan dead
   unfolding tries exploreBelow count choose
-  try-none subset dead = refl
+  tried-all subset dead = refl
 
--- ---- what the whole slot gives, `all` being all its tries, and `here` the tries from here on
+  -- a try without a plan has no sets to write
+  pub attempted-empty : (subset : Set) (dead : List ℕ) → attempted T left slot done c subset dead .plan .ok ≡ false → attempted T left slot done c subset dead .plan ≡ noPlan
+  unfolding attempted hit slotThen
+  attempted-empty subset dead =
+      let e = afterSubset subset dead in
+      by-choice Empty (chosen (T .takers) (c .tying) (c .full) (T .cap) subset)
+      (λ a. by-choice Empty (e .plan .ok) (λ o h. absurd (true≢false h)) (λ o h. refl))
+      (λ a h. refl)
 
-pub same-trans : {x y z : Explored} → Same x y → Same y z → Same x z
-same-trans a b = record { plan = a .plan ∙ b .plan; dead = a .dead ∙ b .dead }
+-- ---- in the loop over the subsets
 
-module _ (k : ℕ) (whole all here : Explored) (e : whole ≡ opening k all) (same : Same here all) where
-  -- a try leads on
-  pub slot-hit : (jobs : Set) (f : Explored) → here ≡ hit jobs f → (whole .plan ≡ slotThen jobs (f .plan)) × (whole .dead ≡ f .dead)
-  unfolding opening hit slotThen choose
-  slot-hit jobs f h =
-      let p : all .plan ≡ slotThen jobs (f .plan) = sym (same .plan) ∙ ap (λ (x : Explored). x .plan) h in
-      let d : all .dead ≡ f .dead = sym (same .dead) ∙ ap (λ (x : Explored). x .dead) h in
-      rw (e, p, d) (refl, refl)
+-- the tries from here on, with the bitmap as it is, answer as all tries with the bitmap at the start; the path is as it was
+pub record Going (T : Tables) (left slot : ℕ) (done : Set) (c : Candidates) (dead₀ path₀ dead path : List ℕ) (tried : Set) (more : Bool) : Type 0 where
+  pub len : length dead ≡ length dead₀
+  pub path-is : path ≡ path₀
+  pub inside : Subset tried (c .tied)
+  pub same : Same (tries T left slot done c (count more tried) dead) (slotTries T left slot done c dead₀)
 
-  -- no try is left
-  pub slot-none : (dead : List ℕ) → here ≡ atOnce noPlan dead → (whole .plan ≡ noPlan) × (whole .dead ≡ withMark dead k)
-  unfolding opening choose
-  slot-none dead h =
-      let p : all .plan ≡ noPlan = sym (same .plan) ∙ ap (λ (x : Explored). x .plan) h in
-      let d : all .dead ≡ dead = sym (same .dead) ∙ ap (λ (x : Explored). x .dead) h in
-      rw (e, p, d) (refl, refl)
+module _ (T : Tables) (left slot : ℕ) (done : Set) (c : Candidates) (dead₀ path₀ : List ℕ) where
+  abbrev fit : Set → Set
+  fit = fitted (c .full) (T .cap)
 
--- ---- an answer without a plan has no sets
+  abbrev attempt : Set → List ℕ → Explored
+  attempt tried dead = attempted T left slot done c tried dead
 
-abbrev pub Empty : Explored → Type 0
-Empty e = e .plan .ok ≡ false → e .plan ≡ noPlan
+  pub going-start : (tried : Set) → tried ≡ fit (c .tied) → Going T left slot done c dead₀ path₀ dead₀ path₀ tried true
+  unfolding count choose
+  going-start tried e = rw e (record {
+    len = refl;
+    path-is = refl;
+    inside = fitted-subset (c .full) (T .cap) (c .tied);
+    same = rw (← (from-fitted T left slot done c (c .tied) dead₀)) (record { plan = refl; dead = refl });
+  })
+
+  module _ (dead path : List ℕ) (tried : Set) where
+    -- a try that leads on
+    pub going-hit : Going T left slot done c dead₀ path₀ dead path tried true → attempt tried dead .plan .ok ≡ true → Same (attempt tried dead) (slotTries T left slot done c dead₀)
+    unfolding count choose
+    going-hit g h = same-trans (tried-on T left slot done c tried dead (g .inside) h) (g .same)
+
+    -- one that does not, with what the code has after it
+    pub going-on : Going T left slot done c dead₀ path₀ dead path tried true → attempt tried dead .plan .ok ≡ false
+        → (dead′ path′ : List ℕ) (tried′ : Set) (more′ : Bool) → dead′ ≡ attempt tried dead .dead → length dead′ ≡ length dead → path′ ≡ written slot (attempt tried dead .plan .sets) path
+        → tried′ ≡ fit (nextBelow tried (c .tied)) → more′ ≡ not (isEmpty tried) → Going T left slot done c dead₀ path₀ dead′ path′ tried′ more′
+    unfolding count choose written
+    going-on g h dead′ path′ tried′ more′ d l p u m =
+        let below = nextBelow tried (c .tied) in
+        let n = attempted-empty T left slot done c tried dead h in
+        record {
+          len = l ∙ g .len;
+          path-is = p ∙ rw n (g .path-is);
+          inside = rw u (subset-trans (fit below) below (c .tied) (fitted-subset (c .full) (T .cap) below) (next-subset tried (c .tied)));
+          same = rw (d, u, m) (same-trans (tried-none T left slot done c tried dead (g .inside) h) (g .same));
+        }
+
+    -- no subset is left
+    pub going-end : Going T left slot done c dead₀ path₀ dead path tried false → Same (atOnce noPlan dead) (slotTries T left slot done c dead₀)
+    going-end g = rw (← (tried-all T left slot done c tried dead)) (g .same)
 
 pub empty-below : (go : Set → Set → List ℕ → Explored) (T : Tables) (done : Set) (c : Candidates) (n : ℕ) (dead : List ℕ) → Empty (exploreBelow go T done c n dead)
 unfolding exploreBelow hit missThen slotThen
@@ -197,6 +279,8 @@ empty-below go T done c (suc n) dead =
     by-choice Empty (allowed T c (record { bits = n }))
     (λ a. by-choice Empty (x .plan .ok) (λ o e. absurd (true≢false e)) (λ o. empty-below go T done c n (x .dead)))
     (λ a. empty-below go T done c n dead)
+
+-- ---- an answer without a plan has no sets
 
 pub no-sets : (T : Tables) (left slot : ℕ) (done last : Set) (dead : List ℕ) → explored T left slot done last dead .plan .ok ≡ false → explored T left slot done last dead .plan ≡ noPlan
 unfolding explored opening

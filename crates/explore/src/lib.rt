@@ -12,19 +12,24 @@
 // followed left, and the jobs whose deadline is the slot or before are followed left.
 use jobset::Set;
 ghost use mathlib.Core.Path.{_≡_};
+ghost use mathlib.Core.Bool.{true, false};
 ghost use Prim.Native.Nat.{_+_, _<_, _≤_};
 ghost use lib.ListN.{length};
 ghost use Rattle.jobset.specs.Sets.{setAt, members, isSubset};
 ghost use Rattle.jobset.specs.Arrays.{giversIn, takersIn, releasedIn, followedIn};
-ghost use Rattle.explore.specs.Slot.{tablesIn, heldBefore, sortJob, candidatesOf, candidatesAt, exact};
+ghost use Rattle.explore.specs.Slot.{tablesIn, heldBefore, sortJob, candidatesOf, seated, candidatesAt, sized, suits, chosen};
 ghost use Rattle.explore.specs.Model.{codeOf, key, written, explored};
 ghost use Rattle.explore.specs.Codes.{Narrow};
+ghost use Rattle.explore.specs.Steps.{attempted, slotTries};
 
-// The candidates of a slot: those without a giver in the slot before, those with exactly one, and these givers.
+// The candidates of a slot: those without a giver in the slot before, those with exactly one, and these givers. A slot gets the
+// forced ones and one tied to each tying job; or, where that is more than the boards there are, it is `full`: then none is forced, and
+// as many as there are boards are taken of all.
 pub struct Candidates {
     pub forced: Set,
     pub tied: Set,
     pub tying: Set,
+    pub full: bool,
 }
 
 // The state in base three: of each job held, 0 not done, 1 done earlier, 2 ran in the slot before.
@@ -68,11 +73,13 @@ fn sort_job(candidates: Candidates, givers: Set, done: Set, last: Set, i: usize)
     let forced = candidates.forced;
     let tied = candidates.tied;
     let tying = candidates.tying;
+    let full = candidates.full;
     if near.is_empty() {
         return Candidates {
             forced: forced.with(i),
             tied,
             tying,
+            full,
         };
     }
     if near.is_one() {
@@ -80,6 +87,7 @@ fn sort_job(candidates: Candidates, givers: Set, done: Set, last: Set, i: usize)
             forced,
             tied: tied.with(i),
             tying: tying.union(near),
+            full,
         };
     }
     candidates
@@ -94,6 +102,7 @@ fn candidates_of(tables: &[u64; 260], free: Set, done: Set, last: Set) -> Candid
         forced: Set::EMPTY,
         tied: Set::EMPTY,
         tying: Set::EMPTY,
+        full: false,
     };
     while !rest.is_empty() {
         let i = rest.lowest() as usize;
@@ -103,10 +112,34 @@ fn candidates_of(tables: &[u64; 260], free: Set, done: Set, last: Set) -> Candid
     candidates
 }
 
-// The candidates of a slot.
-fn candidates_at(tables: &[u64; 260], left: usize, slot: usize, done: Set, last: Set) -> Candidates
+// A cap that no slot meets.
+pub const NO_CAP: u32 = 128;
+
+// The candidates of a slot of at most `cap` jobs.
+fn seat(candidates: Candidates, cap: u32) -> Candidates
+    ensures { λ r. ⌜ r ≡ seated cap candidates ⌝ }
+{
+    if NO_CAP <= cap {
+        return candidates;
+    }
+    let forced = candidates.forced;
+    let tied = candidates.tied;
+    let tying = candidates.tying;
+    if forced.size() + tying.size() <= cap {
+        return candidates;
+    }
+    Candidates {
+        forced: Set::EMPTY,
+        tied: forced.union(tied),
+        tying,
+        full: true,
+    }
+}
+
+// The candidates of a slot, seated.
+fn candidates_at(tables: &[u64; 260], left: usize, slot: usize, done: Set, last: Set, cap: u32) -> Candidates
     requires { ⌜ (left ≤ 64) × (slot ≤ 64) ⌝ }
-    ensures { λ r. ⌜ r ≡ candidatesAt (tablesIn (now (tables .entry))) left slot done last ⌝ }
+    ensures { λ r. ⌜ r ≡ candidatesAt (tablesIn cap (now (tables .entry))) left slot done last ⌝ }
 {
     let begun = Set {
         bits: tables[128 + (slot + 1)],
@@ -114,20 +147,43 @@ fn candidates_at(tables: &[u64; 260], left: usize, slot: usize, done: Set, last:
     let window = begun.minus(Set {
         bits: tables[194 + left],
     });
-    candidates_of(tables, window.minus(done), done, last)
+    seat(candidates_of(tables, window.minus(done), done, last), cap)
 }
 
-// Has each tying job exactly one taker in the subset?
-fn is_exact(tables: &[u64; 260], tying: Set, subset: Set) -> bool
-    ensures { λ r. ⌜ r ≡ exact (takersIn (now (tables .entry))) tying subset ⌝ }
+// Has the subset as many jobs as the slot takes, where it is full?
+fn has_size(full: bool, cap: u32, subset: Set) -> bool
+    ensures { λ r. ⌜ r ≡ sized full cap subset ⌝ }
 {
+    if !full {
+        return true;
+    }
+    subset.has_size(cap)
+}
+
+// Of the takers of one tying job, is just one there? In a full slot it may be none.
+fn is_suited(full: bool, near: Set) -> bool
+    ensures { λ r. ⌜ r ≡ suits full near ⌝ }
+{
+    if near.is_empty() {
+        return full;
+    }
+    near.is_one()
+}
+
+// Is this subset of the tied jobs one that the slot tries?
+fn is_chosen(tables: &[u64; 260], tying: Set, full: bool, cap: u32, subset: Set) -> bool
+    ensures { λ r. ⌜ r ≡ chosen (takersIn (now (tables .entry))) tying full cap subset ⌝ }
+{
+    if !has_size(full, cap, subset) {
+        return false;
+    }
     let mut rest = tying;
     while !rest.is_empty() {
         let i = rest.lowest() as usize;
         let near = subset.intersection(Set {
             bits: tables[64 + i],
         });
-        if !near.is_one() {
+        if !is_suited(full, near) {
             return false;
         }
         rest = rest.rest();
@@ -146,6 +202,121 @@ fn are_done(tables: &[u64; 260], tail: usize, done: Set) -> bool
     jobs.is_subset(done)
 }
 
+// Tries a subset of the tied jobs: whether the slot may have it and that leads to a plan, and the plan's sets in `path`.
+fn try_set(
+    tables: &[u64; 260],
+    dead: &mut [u8],
+    done: Set,
+    candidates: Candidates,
+    subset: Set,
+    left: usize,
+    slot: usize,
+    path: &mut [u64; 64],
+    cap: u32,
+) -> bool
+    requires { ⌜ (52488 ≤ length (now dead)) × (0 < left) × (left + slot ≤ 64) × Narrow (releasedIn (now tables)) (followedIn (now tables)) (left + slot) ⌝ }
+    ensures found { λ r. ⌜ r ≡ attempted (tablesIn cap (now (tables .entry))) left slot done candidates subset (now (dead .entry)) .plan .ok ⌝ }
+    ensures path { λ _. ⌜ now (path .exit) ≡ written slot (attempted (tablesIn cap (now (tables .entry))) left slot done candidates subset (now (dead .entry)) .plan .sets) (now (path .entry)) ⌝ }
+    ensures dead { λ _. ⌜ now (dead .exit) ≡ attempted (tablesIn cap (now (tables .entry))) left slot done candidates subset (now (dead .entry)) .dead ⌝ }
+{
+    if !is_chosen(tables, candidates.tying, candidates.full, cap, subset) {
+        return false;
+    }
+    let jobs = candidates.forced.union(subset);
+    if explore(
+        tables,
+        dead,
+        done.union(jobs),
+        jobs,
+        left - 1,
+        slot + 1,
+        path,
+        cap,
+    ) {
+        path[slot] = jobs.bits;
+        return true;
+    }
+    false
+}
+
+// All subsets of the tied jobs by falling numbers.
+fn try_exact(
+    tables: &[u64; 260],
+    dead: &mut [u8],
+    done: Set,
+    candidates: Candidates,
+    left: usize,
+    slot: usize,
+    path: &mut [u64; 64],
+    cap: u32,
+) -> bool
+    requires { ⌜ (candidates .full ≡ false) × (52488 ≤ length (now dead)) × (0 < left) × (left + slot ≤ 64) × Narrow (releasedIn (now tables)) (followedIn (now tables)) (left + slot) ⌝ }
+    ensures found { λ r. ⌜ r ≡ slotTries (tablesIn cap (now (tables .entry))) left slot done candidates (now (dead .entry)) .plan .ok ⌝ }
+    ensures path { λ _. ⌜ now (path .exit) ≡ written slot (slotTries (tablesIn cap (now (tables .entry))) left slot done candidates (now (dead .entry)) .plan .sets) (now (path .entry)) ⌝ }
+    ensures dead { λ _. ⌜ now (dead .exit) ≡ slotTries (tablesIn cap (now (tables .entry))) left slot done candidates (now (dead .entry)) .dead ⌝ }
+{
+    let mut tried = candidates.tied;
+    let mut more = true;
+    while more {
+        if try_set(tables, dead, done, candidates, tried, left, slot, path, cap) {
+            return true;
+        }
+        more = !tried.is_empty();
+        tried = tried.next_below(candidates.tied);
+    }
+    false
+}
+
+// The same of a full slot: those with more jobs than it takes are passed over.
+fn try_full(
+    tables: &[u64; 260],
+    dead: &mut [u8],
+    done: Set,
+    candidates: Candidates,
+    left: usize,
+    slot: usize,
+    path: &mut [u64; 64],
+    cap: u32,
+) -> bool
+    requires { ⌜ (candidates .full ≡ true) × (52488 ≤ length (now dead)) × (0 < left) × (left + slot ≤ 64) × Narrow (releasedIn (now tables)) (followedIn (now tables)) (left + slot) ⌝ }
+    ensures found { λ r. ⌜ r ≡ slotTries (tablesIn cap (now (tables .entry))) left slot done candidates (now (dead .entry)) .plan .ok ⌝ }
+    ensures path { λ _. ⌜ now (path .exit) ≡ written slot (slotTries (tablesIn cap (now (tables .entry))) left slot done candidates (now (dead .entry)) .plan .sets) (now (path .entry)) ⌝ }
+    ensures dead { λ _. ⌜ now (dead .exit) ≡ slotTries (tablesIn cap (now (tables .entry))) left slot done candidates (now (dead .entry)) .dead ⌝ }
+{
+    let mut tried = candidates.tied.upper(cap);
+    let mut more = true;
+    while more {
+        if try_set(tables, dead, done, candidates, tried, left, slot, path, cap) {
+            return true;
+        }
+        more = !tried.is_empty();
+        tried = tried.next_below(candidates.tied).upper(cap);
+    }
+    false
+}
+
+// The sets of a slot, one after the other.
+fn try_sets(
+    tables: &[u64; 260],
+    dead: &mut [u8],
+    done: Set,
+    candidates: Candidates,
+    left: usize,
+    slot: usize,
+    path: &mut [u64; 64],
+    cap: u32,
+) -> bool
+    requires { ⌜ (52488 ≤ length (now dead)) × (0 < left) × (left + slot ≤ 64) × Narrow (releasedIn (now tables)) (followedIn (now tables)) (left + slot) ⌝ }
+    ensures found { λ r. ⌜ r ≡ slotTries (tablesIn cap (now (tables .entry))) left slot done candidates (now (dead .entry)) .plan .ok ⌝ }
+    ensures path { λ _. ⌜ now (path .exit) ≡ written slot (slotTries (tablesIn cap (now (tables .entry))) left slot done candidates (now (dead .entry)) .plan .sets) (now (path .entry)) ⌝ }
+    ensures dead { λ _. ⌜ now (dead .exit) ≡ slotTries (tablesIn cap (now (tables .entry))) left slot done candidates (now (dead .entry)) .dead ⌝ }
+{
+    if candidates.full {
+        return try_full(tables, dead, done, candidates, left, slot, path, cap);
+    }
+    try_exact(tables, dead, done, candidates, left, slot, path, cap)
+}
+
 // The preferred plan from slot `slot` on, with `left` slots left: whether there is one, and its sets in `path`.
 // `dead` has the marks of the states that were found to have none. The first six parameters travel in registers.
 pub fn explore(
@@ -156,11 +327,12 @@ pub fn explore(
     left: usize,
     slot: usize,
     path: &mut [u64; 64],
+    cap: u32,
 ) -> bool
     requires { ⌜ (52488 ≤ length (now dead)) × (left + slot ≤ 64) × Narrow (releasedIn (now tables)) (followedIn (now tables)) (left + slot) ⌝ }
-    ensures found { λ r. ⌜ r ≡ explored (tablesIn (now (tables .entry))) left slot done last (now (dead .entry)) .plan .ok ⌝ }
-    ensures path { λ _. ⌜ now (path .exit) ≡ written slot (explored (tablesIn (now (tables .entry))) left slot done last (now (dead .entry)) .plan .sets) (now (path .entry)) ⌝ }
-    ensures dead { λ _. ⌜ now (dead .exit) ≡ explored (tablesIn (now (tables .entry))) left slot done last (now (dead .entry)) .dead ⌝ }
+    ensures found { λ r. ⌜ r ≡ explored (tablesIn cap (now (tables .entry))) left slot done last (now (dead .entry)) .plan .ok ⌝ }
+    ensures path { λ _. ⌜ now (path .exit) ≡ written slot (explored (tablesIn cap (now (tables .entry))) left slot done last (now (dead .entry)) .plan .sets) (now (path .entry)) ⌝ }
+    ensures dead { λ _. ⌜ now (dead .exit) ≡ explored (tablesIn cap (now (tables .entry))) left slot done last (now (dead .entry)) .dead ⌝ }
 {
     if are_done(tables, 0, done) {
         return true;
@@ -172,27 +344,9 @@ pub fn explore(
     if bitmap::marked(dead, key) {
         return false;
     }
-    let candidates = candidates_at(tables, left, slot, done, last);
-    let mut tried = candidates.tied;
-    let mut more = true;
-    while more {
-        if is_exact(tables, candidates.tying, tried) {
-            let jobs = candidates.forced.union(tried);
-            if explore(
-                tables,
-                dead,
-                done.union(jobs),
-                jobs,
-                left - 1,
-                slot + 1,
-                path,
-            ) {
-                path[slot] = jobs.bits;
-                return true;
-            }
-        }
-        more = !tried.is_empty();
-        tried = tried.next_below(candidates.tied);
+    let candidates = candidates_at(tables, left, slot, done, last, cap);
+    if try_sets(tables, dead, done, candidates, left, slot, path, cap) {
+        return true;
     }
     bitmap::mark(dead, key);
     false

@@ -20,7 +20,7 @@ use Rattle.jobset.specs.Arrays.{giversIn, takersIn, set-in-part}
 use Rattle.jobfile.specs.declared.FieldAnswer.{FieldAnswer}
 use Rattle.jobfile.specs.declared.FieldAnswer.the-variants.{Field, Refused}
 use Rattle.jobfile.specs.declared.Counts.{Counts}
-use Rattle.jobfile.specs.Reading.{fieldAt, State, stateOf, answerOf, linked, takeNeed, takeField, Held, Same}
+use Rattle.jobfile.specs.Reading.{fieldAt, State, stateOf, initial, answerOf, linked, takeNeed, takeSockets, takeField, Held, Same}
 use Rattle.jobfile.specs.NeedWays.{answer-refused, answer-got}
 use Rattle.jobfile.specs.Holding.{field-same}
 
@@ -138,11 +138,12 @@ module _ (bs : List ℕ) (a : ℕ) (f : JobFile) (next : ToCome bs a f) where
 
 -- before the first field, with no need in the tables
 pub start-held : (bs offsets tables : List ℕ) → length offsets ≡ 64 → tables ≡ replicate 260 0
-    → Held bs noFields (record { fields = 0; limit = 0; jobs = 0; offsets = offsets; givers = giversIn tables; takers = takersIn tables })
+    → Held bs noFields (initial offsets (giversIn tables) (takersIn tables))
 unfolding noFields givesb any
 start-held bs offsets tables len e = record {
   fields-is = refl;
   limit-is = refl;
+  sockets-is = refl;
   jobs-is = refl;
   few = omega arith;
   sizes = (len, length-take-le 64 tables (omega (arith, size)), length-take-le 64 (drop 64 tables) (omega (arith, size, length-drop 64 tables)));
@@ -171,10 +172,11 @@ grown-ask k true q x h = h
 grown-ask k false q x h = tt
 
 grown : (s : State) (tag a : ℕ) (v : List ℕ) → Grown (s .fields) (takeField s tag a v)
-unfolding takeField takeNeed linked Grown
+unfolding takeField takeNeed takeSockets linked Grown
 grown s tag a v =
     grown-ask k (contentOk tag v) 6 _ (by-choice (Grown k) (eqb tag 2) (λ _. refl) (λ _. by-choice (Grown k) (eqb tag 3) (λ _. grown-ask k (ltb (s .jobs) 64) 7 _ refl)
-    (λ _. by-choice (Grown k) (eqb tag 4) (λ _. grown-ask k _ 8 _ (grown-ask k _ 9 _ refl)) (λ _. refl))))
+    (λ _. by-choice (Grown k) (eqb tag 4) (λ _. grown-ask k _ 8 _ (grown-ask k _ 9 _ refl))
+    (λ _. by-choice (Grown k) (eqb tag 9) (λ _. grown-ask k _ 21 _ refl) (λ _. refl)))))
   where
     k : ℕ
     k = s .fields

@@ -1,40 +1,26 @@
 -- The ways out of the field reader, by what it has tested. Assumes nothing.
 use mathlib.Core.Path.{_≡_, refl, sym, ap, _∙_}
 use mathlib.Core.Bool.{true, false}
-use mathlib.Core.List.{List, [], _∷_}
-use Prim.Native.Nat.{ℕ, zero, suc, _+_, _-_, _*_, _≤_, _<_}
+use mathlib.Core.Logic.{_≢_, ⊎-elim}
+use mathlib.Core.List.{List}
+use Prim.Native.Nat.{ℕ, _+_, _-_, _*_, _≤_, _<_}
 use native.Mathlib.Omega.{arith}
-use lib.ListN.{length, getD}
+use lib.ListN.{length}
 use lib.Dec.{T}
-use Rattle.rules.specs.Basics.{choose, at}
+use Rattle.rules.specs.Basics.{at}
 use Rattle.rules.specs.Numbers.{word}
 use Rattle.rules.specs.Fields.{fieldEnd, value, whole}
-use Rattle.rules.specs.JobFile.{fieldRows, firstRow, fieldRow, knownTag, inPlace, lengthOk}
+use Rattle.rules.specs.JobFile.{fieldRow, knownTag, inPlace, lengthOk}
 use Rattle.laws.specs.Tests.{tests, T-true, choose-yes, choose-no}
 use Rattle.laws.specs.JobFile.{known-is}
 use Rattle.laws.specs.Fields.{whole-is, length-value}
 use Rattle.jobfile.specs.declared.FieldRow.{FieldRow}
 use Rattle.jobfile.specs.declared.FieldAnswer.the-variants.{Field, Refused}
-use Rattle.jobfile.specs.Reading.{fieldAt}
+use Rattle.jobfile.specs.Reading.{RowOf, fieldAt}
 
-abbrev row : ℕ → ℕ → ℕ → FieldRow
-row t a b = record { tag = t; least = a; greatest = b }
-
--- the constant table of the code
-abbrev pub codeRows : List FieldRow
-codeRows = row 1 1 1 ∷ row 2 1 1 ∷ row 3 3 14 ∷ row 4 2 2 ∷ row 5 0 65535 ∷ []
-
--- it is the table of the rules
-row-is : (tag : ℕ) (z : FieldRow) → 1 ≤ tag → tag ≤ 5
-    → (getD codeRows (tag - 1) z .least ≡ fieldRow tag .least) × (getD codeRows (tag - 1) z .greatest ≡ fieldRow tag .greatest) × (getD codeRows (tag - 1) z .tag ≡ fieldRow tag .tag)
-unfolding fieldRow firstRow fieldRows choose
-row-is zero z l h = absurd (omega arith)
-row-is (suc zero) z l h = (refl, refl, refl)
-row-is (suc (suc zero)) z l h = (refl, refl, refl)
-row-is (suc (suc (suc zero))) z l h = (refl, refl, refl)
-row-is (suc (suc (suc (suc zero)))) z l h = (refl, refl, refl)
-row-is (suc (suc (suc (suc (suc zero))))) z l h = (refl, refl, refl)
-row-is (suc (suc (suc (suc (suc (suc i)))))) z l h = absurd (omega arith)
+-- a known tag that is none of 1 to 5
+pub last-tag : (tag : ℕ) → tag ≢ 1 → tag ≢ 2 → tag ≢ 3 → tag ≢ 4 → tag ≢ 5 → T (knownTag tag) → 9 ≡ tag
+last-tag tag a b c d e t = ⊎-elim (λ w. absurd (omega arith)) sym (known-is tag .0 t)
 
 module _ (bs : List ℕ) (a k : ℕ) where
   not-whole : (T (whole bs a) → ⊥) → Refused 3 ≡ fieldAt bs a k
@@ -60,42 +46,46 @@ module _ (bs : List ℕ) (a k : ℕ) where
       size-is : length (value bs a) ≡ x + 256 * y
       size-is = omega (arith, length-value bs a is-whole, end-is)
 
-      unknown : (T (knownTag (at bs a)) → ⊥) → Refused 4 ≡ fieldAt bs a k
-      unfolding fieldAt
-      unknown n = sym (choose-yes (whole bs a) _ _ is-whole ∙ choose-no (knownTag (at bs a)) _ _ n)
-
-      pub low-tag : at bs a < 1 → Refused 4 ≡ fieldAt bs a k
-      low-tag l = unknown (λ t. omega (arith, known-is (at bs a) .0 t))
-
-      pub high-tag : 5 < at bs a → Refused 4 ≡ fieldAt bs a k
-      high-tag l = unknown (λ t. omega (arith, known-is (at bs a) .0 t))
-
-      module _ (low : 1 ≤ at bs a) (high : at bs a ≤ 5) where
-        known : T (knownTag (at bs a))
-        known = known-is (at bs a) .1 (low, high)
-
-        pub misplaced : inPlace k (at bs a) ≡ false → Refused 5 ≡ fieldAt bs a k
+      -- r is the row in which the tag is looked up
+      module _ (r : FieldRow) (row : RowOf (at bs a) r) where
+        pub unknown-tag : r .tag ≢ at bs a → Refused 4 ≡ fieldAt bs a k
         unfolding fieldAt
-        misplaced e = sym (choose-yes (whole bs a) _ _ is-whole ∙ choose-yes (knownTag (at bs a)) _ _ known ∙ choose-no (inPlace k (at bs a)) _ _ (λ t. rw e at t))
+        unknown-tag n = sym (choose-yes (whole bs a) _ _ is-whole ∙ choose-no (knownTag (at bs a)) _ _ (λ t. n (row .own t)))
 
-        module _ (placed : inPlace k (at bs a) ≡ true) where
-          wrong-length : (T (lengthOk (at bs a) (length (value bs a))) → ⊥) → Refused 6 ≡ fieldAt bs a k
+        module _ (own : r .tag ≡ at bs a) where
+          known : T (knownTag (at bs a))
+          known = rw (← own) (row .known)
+
+          pub misplaced : inPlace k (at bs a) ≡ false → Refused 5 ≡ fieldAt bs a k
           unfolding fieldAt
-          wrong-length n =
-              sym (choose-yes (whole bs a) _ _ is-whole ∙ choose-yes (knownTag (at bs a)) _ _ known ∙ choose-yes (inPlace k (at bs a)) _ _ (T-true (inPlace k (at bs a)) .1 placed) ∙ choose-no (lengthOk (at bs a) (length (value bs a))) _ _ n)
+          misplaced e =
+              sym (choose-yes (whole bs a) _ _ is-whole ∙ choose-yes (knownTag (at bs a)) _ _ known
+              ∙ choose-no (inPlace k (at bs a)) _ _ (λ t. rw e at t))
 
-          pub too-short : (z : FieldRow) → x + 256 * y < getD codeRows (at bs a - 1) z .least → Refused 6 ≡ fieldAt bs a k
-          unfolding lengthOk
-          too-short z l = wrong-length (λ t. let w = simp tests at t in omega (arith, size-is, row-is (at bs a) z low high .0))
+          module _ (placed : inPlace k (at bs a) ≡ true) where
+            lengths : (r .least ≡ fieldRow (at bs a) .least) × (r .greatest ≡ fieldRow (at bs a) .greatest)
+            lengths = rw (← own) (row .least-is, row .greatest-is)
 
-          pub too-long : (z : FieldRow) → getD codeRows (at bs a - 1) z .greatest < x + 256 * y → Refused 6 ≡ fieldAt bs a k
-          unfolding lengthOk
-          too-long z l = wrong-length (λ t. let w = simp tests at t in omega (arith, size-is, row-is (at bs a) z low high .1))
+            wrong-length : (T (lengthOk (at bs a) (length (value bs a))) → ⊥) → Refused 6 ≡ fieldAt bs a k
+            unfolding fieldAt
+            wrong-length n =
+                sym (choose-yes (whole bs a) _ _ is-whole ∙ choose-yes (knownTag (at bs a)) _ _ known
+                ∙ choose-yes (inPlace k (at bs a)) _ _ (T-true (inPlace k (at bs a)) .1 placed)
+                ∙ choose-no (lengthOk (at bs a) (length (value bs a))) _ _ n)
 
-          pub found : (z : FieldRow) → getD codeRows (at bs a - 1) z .least ≤ x + 256 * y → x + 256 * y ≤ getD codeRows (at bs a - 1) z .greatest
-              → Field (at bs a) (a + 3) (a + 3 + (x + 256 * y)) ≡ fieldAt bs a k
-          unfolding fieldAt lengthOk
-          found z l m =
-              ap (λ (e : ℕ). Field (at bs a) (a + 3) e) (sym end-is)
-              ∙ sym (choose-yes (whole bs a) _ _ is-whole ∙ choose-yes (knownTag (at bs a)) _ _ known ∙ choose-yes (inPlace k (at bs a)) _ _ (T-true (inPlace k (at bs a)) .1 placed)
-              ∙ choose-yes (lengthOk (at bs a) (length (value bs a))) _ _ (simp tests (omega (arith, size-is, row-is (at bs a) z low high))))
+            pub too-short : x + 256 * y < r .least → Refused 6 ≡ fieldAt bs a k
+            unfolding lengthOk
+            too-short l = wrong-length (λ t. let w = simp tests at t in omega (arith, size-is, lengths))
+
+            pub too-long : r .greatest < x + 256 * y → Refused 6 ≡ fieldAt bs a k
+            unfolding lengthOk
+            too-long l = wrong-length (λ t. let w = simp tests at t in omega (arith, size-is, lengths))
+
+            pub found : r .least ≤ x + 256 * y → x + 256 * y ≤ r .greatest
+                → Field (at bs a) (a + 3) (a + 3 + (x + 256 * y)) ≡ fieldAt bs a k
+            unfolding fieldAt lengthOk
+            found l m =
+                ap (λ (e : ℕ). Field (at bs a) (a + 3) e) (sym end-is)
+                ∙ sym (choose-yes (whole bs a) _ _ is-whole ∙ choose-yes (knownTag (at bs a)) _ _ known
+                ∙ choose-yes (inPlace k (at bs a)) _ _ (T-true (inPlace k (at bs a)) .1 placed)
+                ∙ choose-yes (lengthOk (at bs a) (length (value bs a))) _ _ (simp tests (omega (arith, size-is, lengths))))

@@ -14,13 +14,13 @@ use lib.Dec.{T, eqb}
 use Rattle.rules.specs.Basics.{choose, at}
 use Rattle.rules.specs.Fields.{Answer, got, ask, value, whole}
 use Rattle.rules.specs.Needs.{givesb}
-use Rattle.rules.specs.JobFile.{JobFile, nthJob, counted, withLimit, withJob, withNeed, jobOf, isJob, addNeed, addField, contentOk}
+use Rattle.rules.specs.JobFile.{JobFile, nthJob, counted, withLimit, withSockets, withJob, withNeed, jobOf, isJob, addNeed, addSockets, addField, contentOk}
 use Rattle.laws.specs.Tests.{tests, T-ltb, bool-ext}
 use Rattle.laws.specs.Lists.{any-snoc}
 use Rattle.jobset.specs.Sets.{member, setAt, one, union, with}
 use Rattle.jobset.specs.Membership.{member-with}
 use Rattle.jobset.specs.Arrays.{SetsAre}
-use Rattle.jobfile.specs.Reading.{State, linked, takeNeed, takeField, Held, Same}
+use Rattle.jobfile.specs.Reading.{State, oneMore, linked, withOffset, takeNeed, takeSockets, takeField, Held, Same}
 
 -- ---- one pair more in an array of sets
 
@@ -70,12 +70,14 @@ module _ (bs : List ℕ) where
 -- ---- one field more
 
 module _ (bs : List ℕ) (f : JobFile) (s : State) (held : Held bs f s) where
-  -- the counts of fields and the limit are all that changes
-  pub recounted : (k k′ l l′ : ℕ) → k ≡ k′ → l ≡ l′
-      → Held bs (record { fields = k′; limit = l′; jobs = f .jobs; needs = f .needs }) (record { fields = k; limit = l; jobs = s .jobs; offsets = s .offsets; givers = s .givers; takers = s .takers })
-  recounted k k′ l l′ e q = record {
+  -- the count of fields, the limit and the sockets are all that changes
+  pub recounted : (k k′ l l′ b b′ : ℕ) → k ≡ k′ → l ≡ l′ → b ≡ b′
+      → Held bs (record { fields = k′; limit = l′; sockets = b′; jobs = f .jobs; needs = f .needs })
+      (record { fields = k; limit = l; sockets = b; jobs = s .jobs; offsets = s .offsets; givers = s .givers; takers = s .takers })
+  recounted k k′ l l′ b b′ e q w = record {
     fields-is = e;
     limit-is = q;
+    sockets-is = w;
     jobs-is = held .jobs-is;
     few = held .few;
     sizes = held .sizes;
@@ -89,20 +91,24 @@ module _ (bs : List ℕ) (f : JobFile) (s : State) (held : Held bs f s) where
   one-more : s .fields + 1 ≡ suc (f .fields)
   one-more = omega (arith, held .fields-is)
 
-  counted-held : Held bs (counted f) (record { fields = s .fields + 1; limit = s .limit; jobs = s .jobs; offsets = s .offsets; givers = s .givers; takers = s .takers })
+  counted-held : Held bs (counted f) (oneMore s (s .limit) (s .sockets))
   unfolding counted
-  counted-held = recounted (s .fields + 1) (suc (f .fields)) (s .limit) (f .limit) one-more (held .limit-is)
+  counted-held = recounted (s .fields + 1) (suc (f .fields)) (s .limit) (f .limit) (s .sockets) (f .sockets) one-more (held .limit-is) (held .sockets-is)
 
-  limit-held : (l : ℕ) → Held bs (withLimit f l) (record { fields = s .fields + 1; limit = l; jobs = s .jobs; offsets = s .offsets; givers = s .givers; takers = s .takers })
+  limit-held : (l : ℕ) → Held bs (withLimit f l) (oneMore s l (s .sockets))
   unfolding withLimit
-  limit-held l = recounted (s .fields + 1) (suc (f .fields)) l l one-more refl
+  limit-held l = recounted (s .fields + 1) (suc (f .fields)) l l (s .sockets) (f .sockets) one-more refl (held .sockets-is)
 
-  job-held : (a : ℕ) → T (whole bs a) → s .jobs < 64
-      → Held bs (withJob f (jobOf (value bs a))) (record { fields = s .fields + 1; limit = s .limit; jobs = s .jobs + 1; offsets = set (s .offsets) (s .jobs) a; givers = s .givers; takers = s .takers })
+  sockets-held : (b : ℕ) → Held bs (withSockets f b) (oneMore s (s .limit) b)
+  unfolding withSockets
+  sockets-held b = recounted (s .fields + 1) (suc (f .fields)) (s .limit) (f .limit) b b one-more (held .limit-is) refl
+
+  job-held : (a : ℕ) → T (whole bs a) → s .jobs < 64 → Held bs (withJob f (jobOf (value bs a))) (withOffset s a)
   unfolding withJob
   job-held a w h = record {
     fields-is = one-more;
     limit-is = held .limit-is;
+    sockets-is = held .sockets-is;
     jobs-is = omega (arith, held .jobs-is, length-append (f .jobs) (jobOf (value bs a) ∷ []));
     few = omega arith;
     sizes = (length-set (s .offsets) (s .jobs) a ∙ held .sizes .0, held .sizes .1, held .sizes .2);
@@ -126,6 +132,7 @@ module _ (bs : List ℕ) (f : JobFile) (s : State) (held : Held bs f s) where
   need-held g k h l = record {
     fields-is = one-more;
     limit-is = held .limit-is;
+    sockets-is = held .sockets-is;
     jobs-is = held .jobs-is;
     few = held .few;
     sizes = (held .sizes .0, length-set (s .givers) (63 - k) _ ∙ held .sizes .1, length-set (s .takers) (63 - g) _ ∙ held .sizes .2);
@@ -147,6 +154,10 @@ module _ (bs : List ℕ) (f : JobFile) (s : State) (held : Held bs f s) where
       step : (g - 1 < 64) × (k - 1 < 64) → Same bs (ask (not (givesb (f .needs) (g - 1) (k - 1))) 9 (got (withNeed f (g - 1, k - 1)))) (ask (not (member (setAt (s .givers) (63 - (k - 1))) (63 - (g - 1)))) 9 (got (linked s (g - 1) (k - 1))))
       step h = same-ask bs _ _ 9 _ _ (ap not (sym (held .givers-are (k - 1) (g - 1) (h .1) (h .0)))) (λ t. need-held (g - 1) (k - 1) (h .0) (h .1))
 
+  sockets-same : (b : ℕ) → Same bs (addSockets f b) (takeSockets s b)
+  unfolding addSockets takeSockets Same
+  sockets-same b = same-ask bs _ _ 21 _ _ (rw (held .sockets-is) refl) (λ _. sockets-held b)
+
   -- the rest of a field's questions
   pub field-same : (tag a : ℕ) → T (whole bs a) → Same bs (ask (contentOk tag (value bs a)) 6 (addField f tag (value bs a))) (takeField s tag a (value bs a))
   unfolding addField takeField Same
@@ -154,4 +165,5 @@ module _ (bs : List ℕ) (f : JobFile) (s : State) (held : Held bs f s) where
       same-ask bs _ _ 6 _ _ refl (λ _.
       same-choose bs (eqb tag 2) _ _ _ _ (limit-held (at (value bs a) 0))
       (same-choose bs (eqb tag 3) _ _ _ _ (same-ask bs _ _ 7 _ _ (rw (held .jobs-is) refl) (λ t. job-held a w (omega (arith, T-ltb (length (f .jobs)) 64 .0 t, held .jobs-is))))
-      (same-choose bs (eqb tag 4) _ _ _ _ (need-same (at (value bs a) 0) (at (value bs a) 1)) counted-held)))
+      (same-choose bs (eqb tag 4) _ _ _ _ (need-same (at (value bs a) 0) (at (value bs a) 1))
+      (same-choose bs (eqb tag 9) _ _ _ _ (sockets-same (at (value bs a) 0)) counted-held))))

@@ -15,7 +15,7 @@ use Rattle.jobset.specs.Sets.{member, setAt, with}
 use Rattle.jobset.specs.declared.Set.{Set}
 use Rattle.jobset.specs.Arrays.{giversIn, takersIn, giver-set, taker-set}
 use Rattle.jobfile.specs.declared.Counts.{Counts}
-use Rattle.jobfile.specs.Reading.{State, stateOf, answerOf, linked, takeNeed}
+use Rattle.jobfile.specs.Reading.{State, stateOf, answerOf, oneMore, linked, takeNeed}
 
 -- ---- what counts say
 
@@ -94,7 +94,7 @@ module _ (c : Counts) (o tables : List ℕ) (g k : ℕ) (giver : isJob (c .jobs)
   known-in e = known-need before g k giver taker other (rw (giver-set tables (63 - (k - 1)) (omega arith)) e)
 
   pub new-in : member (setAt tables (63 - (k - 1))) (63 - (g - 1)) ≡ false
-      → takeNeed before g k ≡ got (record { fields = c .fields + 1; limit = c .limit; jobs = c .jobs; offsets = o; givers = giversIn both; takers = takersIn both })
+      → takeNeed before g k ≡ got (oneMore (stateOf c o (giversIn both) (takersIn both)) (c .limit) (c .sockets))
   unfolding linked
   new-in e =
       let p = 63 - (k - 1) in let q = 63 - (g - 1) in

@@ -7,9 +7,10 @@ use lib.ListN.{length, set}
 use lib.Dec.{T, ltb, eqb}
 use Rattle.rules.specs.Basics.{choose, at}
 use Rattle.rules.specs.Fields.{Answer, refused, got, ask, numberOf, fieldEnd, value, whole}
-use Rattle.rules.specs.JobFile.{JobFile, nthJob, knownTag, inPlace, lengthOk, contentOk, jobOf, isJob, readFile}
+use Rattle.rules.specs.JobFile.{JobFile, fieldRow, nthJob, knownTag, inPlace, lengthOk, contentOk, jobOf, isJob, readFile}
 use Rattle.jobset.specs.Sets.{member, setAt, with}
 use Rattle.jobset.specs.Arrays.{GiversAre, TakersAre}
+use Rattle.jobfile.specs.declared.FieldRow.{FieldRow}
 use Rattle.jobfile.specs.declared.FieldAnswer.{FieldAnswer}
 use Rattle.jobfile.specs.declared.FieldAnswer.the-variants.{Field, Refused}
 use Rattle.jobfile.specs.declared.Counts.{Counts}
@@ -18,6 +19,13 @@ use Rattle.jobfile.specs.declared.Counts.{Counts}
 abbrev pub refusalOf : FieldAnswer → ℕ
 refusalOf (Field t s e) = 0
 refusalOf (Refused q) = q
+
+-- r is a row of the rules' table, and of a known tag its own
+pub record RowOf (tag : ℕ) (r : FieldRow) : Type 0 where
+  pub own : T (knownTag tag) → r .tag ≡ tag
+  pub known : T (knownTag (r .tag))
+  pub least-is : r .least ≡ fieldRow (r .tag) .least
+  pub greatest-is : r .greatest ≡ fieldRow (r .tag) .greatest
 
 -- questions 3 to 5 of the field at offset a behind `fields` others, and 6 of its length
 unfoldable pub fieldAt : List ℕ → ℕ → ℕ → FieldAnswer
@@ -31,23 +39,33 @@ fieldAt bs a fields =
 pub record State : Type 0 where
   pub fields : ℕ
   pub limit : ℕ
+  pub sockets : ℕ
   pub jobs : ℕ
   pub offsets : List ℕ
   pub givers : List ℕ
   pub takers : List ℕ
 
 abbrev pub stateOf : Counts → List ℕ → List ℕ → List ℕ → State
-stateOf c o g t = record { fields = c .fields; limit = c .limit; jobs = c .jobs; offsets = o; givers = g; takers = t }
+stateOf c o g t = record { fields = c .fields; limit = c .limit; sockets = c .sockets; jobs = c .jobs; offsets = o; givers = g; takers = t }
+
+-- before the first field
+abbrev pub initial : List ℕ → List ℕ → List ℕ → State
+initial o g t = record { fields = 0; limit = 0; sockets = 0; jobs = 0; offsets = o; givers = g; takers = t }
 
 -- the counts with number 0 say that nothing was refused
 unfoldable pub answerOf : Counts → List ℕ → List ℕ → List ℕ → Answer State
 answerOf c o g t = choose (eqb (c .number) 0) (got (stateOf c o g t)) (refused (c .number))
+
+-- one field more, that adds no job and no need
+abbrev pub oneMore : State → ℕ → ℕ → State
+oneMore s l b = record { fields = s .fields + 1; limit = l; sockets = b; jobs = s .jobs; offsets = s .offsets; givers = s .givers; takers = s .takers }
 
 -- the need from job g to job k, both from 0, in both arrays of sets
 unfoldable pub linked : State → ℕ → ℕ → State
 linked s g k = record {
   fields = s .fields + 1;
   limit = s .limit;
+  sockets = s .sockets;
   jobs = s .jobs;
   offsets = s .offsets;
   givers = set (s .givers) (63 - k) (with (setAt (s .givers) (63 - k)) (63 - g) .bits);
@@ -60,15 +78,30 @@ takeNeed s g k =
     ask (isJob (s .jobs) g && (isJob (s .jobs) k && not (eqb g k))) 8
     (ask (not (member (setAt (s .givers) (63 - (k - 1))) (63 - (g - 1)))) 9 (got (linked s (g - 1) (k - 1))))
 
--- the rest of question 6, and 7 to 9, of the field at offset a with tag and value
+-- question 21 of the most boards b
+unfoldable pub takeSockets : State → ℕ → Answer State
+takeSockets s b = ask (eqb (s .sockets) 0) 21 (got (oneMore s (s .limit) b))
+
+-- the job whose field starts at offset a
+abbrev pub withOffset : State → ℕ → State
+withOffset s a = record {
+  fields = s .fields + 1;
+  limit = s .limit;
+  sockets = s .sockets;
+  jobs = s .jobs + 1;
+  offsets = set (s .offsets) (s .jobs) a;
+  givers = s .givers;
+  takers = s .takers;
+}
+
+-- the rest of question 6, 7 to 9 and 21, of the field at offset a with tag and value
 unfoldable pub takeField : State → ℕ → ℕ → List ℕ → Answer State
 takeField s tag a v =
     ask (contentOk tag v) 6
-    (choose (eqb tag 2) (got (record { fields = s .fields + 1; limit = at v 0; jobs = s .jobs; offsets = s .offsets; givers = s .givers; takers = s .takers }))
-    (choose (eqb tag 3)
-    (ask (ltb (s .jobs) 64) 7 (got (record { fields = s .fields + 1; limit = s .limit; jobs = s .jobs + 1; offsets = set (s .offsets) (s .jobs) a; givers = s .givers; takers = s .takers })))
+    (choose (eqb tag 2) (got (oneMore s (at v 0) (s .sockets)))
+    (choose (eqb tag 3) (ask (ltb (s .jobs) 64) 7 (got (withOffset s a)))
     (choose (eqb tag 4) (takeNeed s (at v 0) (at v 1))
-    (got (record { fields = s .fields + 1; limit = s .limit; jobs = s .jobs; offsets = s .offsets; givers = s .givers; takers = s .takers })))))
+    (choose (eqb tag 9) (takeSockets s (at v 0)) (got (oneMore s (s .limit) (s .sockets)))))))
 
 -- question 10 of the counts at the end
 unfoldable pub completeNumber : Counts → ℕ
@@ -78,6 +111,7 @@ completeNumber c = choose (eqb (c .number) 0) (choose (ltb (c .fields) 2) 10 (ch
 pub record Held (bs : List ℕ) (f : JobFile) (s : State) : Type 0 where
   pub fields-is : s .fields ≡ f .fields
   pub limit-is : s .limit ≡ f .limit
+  pub sockets-is : s .sockets ≡ f .sockets
   pub jobs-is : s .jobs ≡ length (f .jobs)
   pub few : s .jobs ≤ 64
   pub sizes : (length (s .offsets) ≡ 64) × (length (s .givers) ≡ 64) × (length (s .takers) ≡ 64)

@@ -34,8 +34,8 @@ module _ (bs : List ℕ) (fits : length bs ≤ 16384) (c : Counts) (o g t : List
   unfolding readFile
   read-is x e = ask-yes (leb (length bs) 16384) 2 (after (allFields bs) complete) (simp tests fits) ∙ ap (λ (y : Answer JobFile). after y complete) e
 
-  result : Counts
-  result = record { number = q; fields = c .fields; limit = c .limit; jobs = c .jobs }
+  abbrev result : Counts
+  result = record { number = q; sockets = c .sockets; fields = c .fields; limit = c .limit; jobs = c .jobs }
 
   module _ (well : c .number ≡ 0) (f : JobFile) (all : allFields bs ≡ got f) (held : Held bs f (stateOf c o g t)) where
     completed : readFile bs ≡ ask (leb 2 (f .fields) && leb 1 (length (f .jobs))) 10 (got f)
@@ -43,7 +43,6 @@ module _ (bs : List ℕ) (fits : length bs ≤ 16384) (c : Counts) (o g t : List
     completed = read-is (got f) all
 
     incomplete : (c .fields < 2) ⊎ (c .jobs < 1) → completeNumber c ≡ 10 → Reads bs result o g t
-    unfolding result
     incomplete h n = reads-refused bs 10 result o g t (completed ∙ ask-no (leb 2 (f .fields) && leb 1 (length (f .jobs))) 10 (got f) (λ z. no h (simp tests at z))) (number-is ∙ n)
       where
         no : (c .fields < 2) ⊎ (c .jobs < 1) → (2 ≤ f .fields) × (1 ≤ length (f .jobs)) → ⊥
@@ -51,15 +50,15 @@ module _ (bs : List ℕ) (fits : length bs ≤ 16384) (c : Counts) (o g t : List
         no (inr l) w = omega (arith, held .jobs-is)
 
     readable : 2 ≤ c .fields → 1 ≤ c .jobs → completeNumber c ≡ 0 → Reads bs result o g t
-    unfolding result numberOf
+    unfolding numberOf
     readable h l n = record { number-is = number-is ∙ n ∙ sym (ap numberOf read); held = λ f′ e. let p : f ≡ f′ = cc (sym read ∙ e) in rw (← p) held }
       where
         read : readFile bs ≡ got f
         read = completed ∙ ask-yes (leb 2 (f .fields) && leb 1 (length (f .jobs))) 10 (got f) (simp tests (omega (arith, held .fields-is), omega (arith, held .jobs-is)))
 
   -- a file of which all fields were asked
-  pub all-asked : Same bs (allFields bs) (answerOf c o g t) → Reads bs (record { number = q; fields = c .fields; limit = c .limit; jobs = c .jobs }) o g t
-  unfolding Same after completeNumber choose result
+  pub all-asked : Same bs (allFields bs) (answerOf c o g t) → Reads bs result o g t
+  unfolding Same after completeNumber choose
   all-asked same = go (ℕ-discrete (c .number) 0)
     where
       yes-got : c .number ≡ 0 → (x : Answer JobFile) → allFields bs ≡ x → Same bs x (got (stateOf c o g t)) → Dec (c .fields < 2) → Dec (c .jobs < 1) → Reads bs result o g t

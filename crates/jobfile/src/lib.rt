@@ -1,4 +1,4 @@
-// The job file, read field by field: questions 2 to 10 of document 01.
+// The job file, read field by field: questions 2 to 10 of document 01, and 21.
 //
 // Jobs are counted from 0 here. In sets, and in the tables of sets, job i stands at place 63 - i (crate jobset).
 // All tables of a file are one array: the givers of each job, then the takers, then sets that the reader does not touch.
@@ -8,12 +8,14 @@ ghost use mathlib.Core.Path.{_≡_};
 ghost use mathlib.Core.List.{List};
 ghost use Prim.Native.Nat.{ℕ, _<_, _≤_};
 ghost use lib.ListN.{length, drop, replicate};
-ghost use lib.Dec.{T};
-ghost use Rattle.rules.specs.Basics.{at, all};
+ghost use lib.Dec.{T, eqb};
+ghost use Rattle.rules.specs.Sizes.{maxBoards};
+ghost use Rattle.rules.specs.Basics.{choose, at, all};
 ghost use Rattle.rules.specs.JobFile.{nameByte, inPlace, lengthOk, contentOk, isJob};
 ghost use Rattle.rules.specs.JobFile.{noFields};
 ghost use Rattle.jobset.specs.Arrays.{giversIn, takersIn};
-ghost use Rattle.jobfile.specs.Reading.{fieldAt, refusalOf, stateOf, answerOf, takeNeed, takeField, completeNumber, Held, Same, Reads};
+ghost use Rattle.jobfile.specs.Reading.{RowOf, fieldAt, refusalOf, stateOf, initial, answerOf};
+ghost use Rattle.jobfile.specs.Reading.{takeNeed, takeSockets, takeField, completeNumber, Held, Same, Reads};
 ghost use Rattle.jobfile.specs.FieldByField.{allFields};
 
 // A row of the table of fields: a tag with its shortest and longest value.
@@ -23,8 +25,8 @@ pub struct FieldRow {
     pub greatest: u16,
 }
 
-// Header, limit, job, need, comment.
-pub const ROWS: [FieldRow; 5] = [
+// Header, limit, job, need, comment, most boards.
+pub const ROWS: [FieldRow; 6] = [
     FieldRow {
         tag: 1,
         least: 1,
@@ -50,6 +52,11 @@ pub const ROWS: [FieldRow; 5] = [
         least: 0,
         greatest: 65535,
     },
+    FieldRow {
+        tag: 9,
+        least: 1,
+        greatest: 1,
+    },
 ];
 
 // A field, its value from start to before end; or the number of the question that said no.
@@ -59,8 +66,10 @@ pub enum FieldAnswer {
 }
 
 // How much has been read (so many fields, the limit, so many jobs), with number 0; or the number of the question that said no.
+// `sockets` is the value of tag 9, 0 where there is none.
 pub struct Counts {
     pub number: u8,
+    pub sockets: u8,
     pub fields: usize,
     pub limit: usize,
     pub jobs: usize,
@@ -79,6 +88,28 @@ fn in_place(fields: usize, tag: u8) -> bool
     3 <= tag
 }
 
+// The row in which a tag is looked up: its own, or the last where it has none.
+fn row_of(tag: u8) -> FieldRow
+    ensures { λ r. ⌜ RowOf tag r ⌝ }
+{
+    if tag == 1 {
+        return ROWS[0];
+    }
+    if tag == 2 {
+        return ROWS[1];
+    }
+    if tag == 3 {
+        return ROWS[2];
+    }
+    if tag == 4 {
+        return ROWS[3];
+    }
+    if tag == 5 {
+        return ROWS[4];
+    }
+    ROWS[5]
+}
+
 // The field at offset `at` behind `fields` others: questions 3 to 5, and 6 of its length.
 fn field_at(file: &[u8], at: usize, fields: usize) -> FieldAnswer
     requires { ⌜ at < length (now file) ⌝ }
@@ -94,17 +125,13 @@ fn field_at(file: &[u8], at: usize, fields: usize) -> FieldAnswer
     if n - start < len {
         return FieldAnswer::Refused(3);
     }
-    if tag < 1 {
-        return FieldAnswer::Refused(4);
-    }
-    if 5 < tag {
+    let row = row_of(tag);
+    if row.tag != tag {
         return FieldAnswer::Refused(4);
     }
     if !in_place(fields, tag) {
         return FieldAnswer::Refused(5);
     }
-    let i = (tag - 1) as usize;
-    let row = ROWS[i];
     let least = row.least as usize;
     let greatest = row.greatest as usize;
     if len < least {
@@ -170,6 +197,12 @@ fn content_ok(tag: u8, v: &[u8]) -> bool
     if tag == 3 {
         return name_ok(v);
     }
+    if tag == 9 {
+        if v[0] < 1 {
+            return false;
+        }
+        return v[0] <= 8;
+    }
     true
 }
 
@@ -189,6 +222,7 @@ fn refused(number: u8) -> Counts
 {
     Counts {
         number,
+        sockets: 0,
         fields: 0,
         limit: 0,
         jobs: 0,
@@ -227,13 +261,31 @@ fn take_need(c: Counts, v: &[u8], tables: &mut [u64; 260]) -> Counts
     tables[64 + g] = more.bits;
     Counts {
         number: 0,
+        sockets: c.sockets,
         fields: c.fields + 1,
         limit: c.limit,
         jobs,
     }
 }
 
-// The field at offset `at`, with its tag and value: the rest of question 6, and 7 to 9.
+// The most boards: question 21.
+fn take_sockets(c: Counts, v: &[u8]) -> Counts
+    requires { ⌜ (c .number ≡ 0) × (c .fields < 65536) × (1 ≤ length (now v)) ⌝ }
+    ensures { λ r. ⌜ ((o g t : List ℕ) → answerOf r o g t ≡ takeSockets (stateOf c o g t) (at (now (v .entry)) 0)) ⌝ }
+{
+    if c.sockets != 0 {
+        return refused(21);
+    }
+    Counts {
+        number: 0,
+        sockets: v[0],
+        fields: c.fields + 1,
+        limit: c.limit,
+        jobs: c.jobs,
+    }
+}
+
+// The field at offset `at`, with its tag and value: the rest of question 6, 7 to 9, and 21.
 fn take_field(
     c: Counts,
     tag: u8,
@@ -252,6 +304,7 @@ fn take_field(
     if tag == 2 {
         return Counts {
             number: 0,
+            sockets: c.sockets,
             fields: c.fields + 1,
             limit: wide(v[0]),
             jobs,
@@ -264,6 +317,7 @@ fn take_field(
         offsets[jobs] = at as u16;
         return Counts {
             number: 0,
+            sockets: c.sockets,
             fields: c.fields + 1,
             limit: c.limit,
             jobs: jobs + 1,
@@ -272,21 +326,26 @@ fn take_field(
     if tag == 4 {
         return take_need(c, v, tables);
     }
+    if tag == 9 {
+        return take_sockets(c, v);
+    }
     Counts {
         number: 0,
+        sockets: c.sockets,
         fields: c.fields + 1,
         limit: c.limit,
         jobs,
     }
 }
 
-// All fields, one after the other: questions 3 to 9.
+// All fields, one after the other: questions 3 to 9, and 21.
 fn read_fields(file: &[u8], offsets: &mut [u16; 64], tables: &mut [u64; 260]) -> Counts
-    requires { ⌜ (length (now file) ≤ 16384) × Held (now file) noFields (record { fields = 0; limit = 0; jobs = 0; offsets = now offsets; givers = giversIn (now tables); takers = takersIn (now tables) }) ⌝ }
+    requires { ⌜ (length (now file) ≤ 16384) × Held (now file) noFields (initial (now offsets) (giversIn (now tables)) (takersIn (now tables))) ⌝ }
     ensures { λ r. ⌜ Same (now (file .entry)) (allFields (now (file .entry))) (answerOf r (now (offsets .exit)) (giversIn (now (tables .exit))) (takersIn (now (tables .exit)))) × (length (now (tables .exit)) ≡ length (now (tables .entry))) ⌝ }
 {
     let mut c = Counts {
         number: 0,
+        sockets: 0,
         fields: 0,
         limit: 0,
         jobs: 0,
@@ -324,7 +383,17 @@ fn complete(c: Counts) -> u8
     0
 }
 
-// The job file: questions 2 to 10. The offsets get where the field of each job starts, the tables its givers and its takers.
+// The most boards: eight where the file does not say.
+pub fn most_boards(sockets: u8) -> u8
+    ensures { λ r. ⌜ r ≡ choose (eqb sockets 0) maxBoards sockets ⌝ }
+{
+    if sockets == 0 {
+        return 8;
+    }
+    sockets
+}
+
+// The job file: questions 2 to 10, and 21. The offsets get where the field of each job starts, the tables its givers and its takers.
 pub fn read_file(file: &[u8], offsets: &mut [u16; 64], tables: &mut [u64; 260]) -> Counts
     requires { ⌜ (length (now offsets) ≡ 64) × (now tables ≡ replicate 260 0) ⌝ }
     ensures { λ r. ⌜ Reads (now (file .entry)) r (now (offsets .exit)) (giversIn (now (tables .exit))) (takersIn (now (tables .exit))) × (length (now (tables .exit)) ≡ 260) ⌝ }
@@ -335,6 +404,7 @@ pub fn read_file(file: &[u8], offsets: &mut [u16; 64], tables: &mut [u64; 260]) 
     let c = read_fields(file, offsets, tables);
     Counts {
         number: complete(c),
+        sockets: c.sockets,
         fields: c.fields,
         limit: c.limit,
         jobs: c.jobs,

@@ -11,5 +11,6 @@ pub mod Lowest
 pub mod Members
 pub mod Rest
 pub mod Size
+pub mod Upper
 pub mod Highest
 pub mod Arrays

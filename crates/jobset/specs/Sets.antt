@@ -81,6 +81,15 @@ highest s = 63 - leadingZeros 64 (s .bits)
 unfoldable pub nextBelow : Set → Set → Set
 nextBelow s t = record { bits = bitAnd (s .bits - 1) (t .bits) }
 
+-- s without its k lowest members
+unfoldable pub lessLowest : ℕ → Set → Set
+lessLowest zero s = s
+lessLowest (suc k) s = lessLowest k (nextBelow s s)
+
+-- the highest members of s, at most so many
+unfoldable pub upper : ℕ → Set → Set
+upper most s = lessLowest (size s - most) s
+
 -- the members of s among the k places from i up, rising
 unfoldable pub membersFrom : ℕ → ℕ → Set → List ℕ
 membersFrom zero i s = []

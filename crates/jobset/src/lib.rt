@@ -5,7 +5,8 @@
 ghost use mathlib.Core.Path.{_≡_};
 ghost use mathlib.Core.Bool.{false};
 ghost use Prim.Native.Nat.{_<_};
-ghost use Rattle.jobset.specs.Sets.{digit, member, one, with, without, union, minus, intersection, isSubset, isEmpty, isOne, size, lowest, highest, nextBelow};
+ghost use lib.Dec.{eqb};
+ghost use Rattle.jobset.specs.Sets.{digit, member, one, with, without, union, minus, intersection, isSubset, isEmpty, isOne, size, lowest, highest, nextBelow, upper};
 
 pub struct Set {
     pub bits: u64,
@@ -120,6 +121,22 @@ impl Set {
         u64::count_ones(self.bits)
     }
 
+    // Has it just so many members? (Taking them off is quicker than counting where there are few.)
+    pub fn has_size(self, count: u32) -> bool
+        ensures { λ r. ⌜ r ≡ eqb (size self) count ⌝ }
+    {
+        let mut rest = self;
+        let mut left = count;
+        while 0 < left {
+            if rest.is_empty() {
+                return false;
+            }
+            rest = rest.rest();
+            left -= 1;
+        }
+        rest.is_empty()
+    }
+
     // The lowest member; 64 where there is none.
     pub fn lowest(self) -> u32
         ensures { λ r. ⌜ r ≡ lowest self ⌝ }
@@ -153,5 +170,22 @@ impl Set {
         Set {
             bits: (self.bits - 1) & whole.bits,
         }
+    }
+
+    // Its highest members, at most so many: the next smaller set with no more.
+    pub fn upper(self, most: u32) -> Set
+        ensures { λ r. ⌜ r ≡ upper most self ⌝ }
+    {
+        let count = self.size();
+        if count <= most {
+            return self;
+        }
+        let mut highest = self;
+        let mut extra = count - most;
+        while 0 < extra {
+            highest = highest.rest();
+            extra -= 1;
+        }
+        highest
     }
 }

@@ -11,10 +11,12 @@ use lib.Dec.{T, ltb, eqb}
 use Rattle.rules.specs.Basics.{at, filter, Distinct}
 use Rattle.rules.specs.Needs.{Need, Gives, NeedsIn}
 use Rattle.rules.specs.Program.{SatisfiesP, slots, Fits, Kept, keptb}
+use Rattle.rules.specs.Boards.{Capped, Runs, runsb}
 use Rattle.rules.specs.Preference.{Preferred, slotRows, preferredb, betterb, better, bestBy, prefixed, startLists, best}
 use Rattle.laws.specs.Tests.{T-or, T-ltb, by-choice, tests}
 use Rattle.laws.specs.Lists.{map-mem, map-mem⁻¹, filter-mem, filter-mem⁻¹}
 use Rattle.laws.specs.Program.{kept-is, slots-fits, fits-slots, program-is}
+use Rattle.laws.specs.Caps.{runs-is}
 use Rattle.laws.specs.Lexicographic.{lex-total, lex-trans}
 use Rattle.laws.specs.Preference.{preferred-total, Weak, Weak-antisym, preferred-is}
 
@@ -173,72 +175,90 @@ best-of n p K p-is L = go (bestBy (betterb L) found) (bestBy-is (betterb L) (bet
         w : List·Memᴰ t (startLists n L) × T (p t)
         w = filter-mem⁻¹ p (startLists n L) t (h .0)
 
--- for the rules
-pub best-is : (n : ℕ) (needs : List Need) (L : ℕ) → BestWithin n L (λ u. Kept (Gives needs) (at u)) (best n (keptb needs) L)
-best-is n needs L = best-of n (keptb needs) (λ u. Kept (Gives needs) (at u)) (kept-is needs) L
+-- tests that say the same of the lists within the limit have the same best list
+pub best-same : (n : ℕ) (p q : List ℕ → Bool) (L : ℕ) → ((u : List ℕ) → Fits n L u → T (p u) ↔ T (q u)) → best n p L ≡ best n q L
+best-same n p q L h = BestWithin-unique n L (λ u. T (q u)) (best n p L) (best n q L) (go (best n p L) (best-of n p (λ u. T (p u)) (λ u. (λ t. t, λ t. t)) L)) (best-of n q (λ u. T (q u)) (λ u. (λ t. t, λ t. t)) L)
+  where
+    go : (o : Option (List ℕ)) → BestWithin n L (λ u. T (p u)) o → BestWithin n L (λ u. T (q u)) o
+    go none b = λ u k f. b u (h u f .1 k) f
+    go (some t) b = (h t (b .1) .0 (b .0), b .1, λ u k f. b .2 u (h u f .1 k) f)
+
+-- for the rules, with at most c jobs in a slot
+pub best-is : (n : ℕ) (needs : List Need) (c L : ℕ) → BestWithin n L (Runs n needs c) (best n (runsb n needs c) L)
+best-is n needs c L = best-of n (runsb n needs c) (Runs n needs c) (runs-is n needs c) L
+
+-- a cap that every list within the limit keeps asks nothing
+pub best-uncapped : (n : ℕ) (needs : List Need) (c L : ℕ) → ((u : List ℕ) → Kept (Gives needs) (at u) → Fits n L u → Capped n c u) → best n (runsb n needs c) L ≡ best n (keptb needs) L
+best-uncapped n needs c L h = best-same n (runsb n needs c) (keptb needs) L (λ u f. (
+  λ t. kept-is needs u .1 (runs-is n needs c u .0 t .kept),
+  λ t. let k = kept-is needs u .0 t in runs-is n needs c u .1 record { kept = k; capped = h u k f },
+))
 
 -- ---- what the best list is, said with program P (document 01, question 13, "Preference and boards")
 
--- t satisfies P within the limit L, no list that does has fewer slots, and t is preferred to each other one that has as many
-pub record Shortest (n : ℕ) (needs : List Need) (L : ℕ) (t : List ℕ) : Type 0 where
+-- program P within C slots, and no more jobs in any slot than c (document 02, request 13)
+abbrev pub Satisfies : ℕ → List Need → ℕ → ℕ → List ℕ → Type 0
+Satisfies n needs c C t = SatisfiesP n needs C t × Capped n c t
+
+-- t satisfies P within the limit L with at most c jobs in a slot, no list that does has fewer slots, and t is preferred to each other one that has as many
+pub record Shortest (n : ℕ) (needs : List Need) (c L : ℕ) (t : List ℕ) : Type 0 where
   pub satisfies : SatisfiesP n needs (slots t) t
+  pub capped : Capped n c t
   pub fits : slots t ≤ L
-  pub shortest : (u : List ℕ) → SatisfiesP n needs L u → slots t ≤ slots u
-  pub preferred : (u : List ℕ) → SatisfiesP n needs L u → slots u ≡ slots t → u ≢ t → Preferred n t u
+  pub shortest : (u : List ℕ) → Satisfies n needs c L u → slots t ≤ slots u
+  pub preferred : (u : List ℕ) → Satisfies n needs c L u → slots u ≡ slots t → u ≢ t → Preferred n t u
 
-module _ (n : ℕ) (needs : List Need) (L : ℕ) (distinct : Distinct needs) (needs-in : NeedsIn n needs) (L-pos : 0 < L) where
-  -- u keeps the three sentences
-  abbrev Keeps : List ℕ → Type 0
-  Keeps u = Kept (Gives needs) (at u)
-
-  program : (C : ℕ) (u : List ℕ) → SatisfiesP n needs C u ↔ (Keeps u × Fits n C u)
-  program C u = program-is n needs C u distinct needs-in
+module _ (n : ℕ) (needs : List Need) (c L : ℕ) (distinct : Distinct needs) (needs-in : NeedsIn n needs) (L-pos : 0 < L) where
+  program : (C : ℕ) (u : List ℕ) → Satisfies n needs c C u ↔ (Runs n needs c u × Fits n C u)
+  program C u = let w = program-is n needs C u distinct needs-in in
+      (λ h. let k = w .0 (h .0) in (record { kept = k .0; capped = h .1 }, k .1), λ h. (w .1 (h .0 .kept, h .1), h .0 .capped))
 
   -- the best list is the shortest, and of those the preferred
-  pub best-found : (t : List ℕ) → best n (keptb needs) L ≡ some t → Shortest n needs L t
+  pub best-found : (t : List ℕ) → best n (runsb n needs c) L ≡ some t → Shortest n needs c L t
   best-found t e = record {
-    satisfies = program (slots t) t .1 (h .0, slots-fits n (slots t) t (h .1 .len) (omega arith));
+    satisfies = program (slots t) t .1 (h .0, slots-fits n (slots t) t (h .1 .len) (omega arith)) .0;
+    capped = h .0 .capped;
     fits = fits-slots n L t L-pos (h .1);
     shortest = λ u s. ⊎-elim (λ q. omega (arith, q)) (λ q. omega (arith, q .0)) (rest u s);
-    preferred = λ u s c d. ⊎-elim (λ q. absurd (omega (arith, q))) (λ q. ⊎-elim (λ z. absurd (d (sym z))) (λ z. z) (q .1)) (rest u s);
+    preferred = λ u s e d. ⊎-elim (λ q. absurd (omega (arith, q))) (λ q. ⊎-elim (λ z. absurd (d (sym z))) (λ z. z) (q .1)) (rest u s);
   }
     where
-      h : BestWithin n L Keeps (some t)
-      h = rw e at (best-is n needs L)
+      h : BestWithin n L (Runs n needs c) (some t)
+      h = rw e at (best-is n needs c L)
 
-      rest : (u : List ℕ) → SatisfiesP n needs L u → NoWorse n t u
+      rest : (u : List ℕ) → Satisfies n needs c L u → NoWorse n t u
       rest u s = let w = program L u .0 s in h .2 u (w .0) (w .1)
 
   -- and nothing else is
-  pub best-only : (t : List ℕ) → Shortest n needs L t → best n (keptb needs) L ≡ some t
+  pub best-only : (t : List ℕ) → Shortest n needs c L t → best n (runsb n needs c) L ≡ some t
   best-only t s =
-      BestWithin-unique n L Keeps (best n (keptb needs) L) (some t) (best-is n needs L)
+      BestWithin-unique n L (Runs n needs c) (best n (runsb n needs c) L) (some t) (best-is n needs c L)
       (w .0, slots-fits n L t (w .1 .len) (s .fits), λ u k f. compare u (program L u .1 (k, f)) (preferred-total n t u (w .1 .len) (f .len)) (decLt (slots t) (slots u)))
     where
-      w : Keeps t × Fits n (slots t) t
-      w = program (slots t) t .0 (s .satisfies)
+      w : Runs n needs c t × Fits n (slots t) t
+      w = program (slots t) t .0 (s .satisfies, s .capped)
 
-      equal-or : (u : List ℕ) → SatisfiesP n needs L u → slots t ≡ slots u → (t ≡ u) ⊎ (Preferred n t u ⊎ Preferred n u t) → Weak n t u
+      equal-or : (u : List ℕ) → Satisfies n needs c L u → slots t ≡ slots u → (t ≡ u) ⊎ (Preferred n t u ⊎ Preferred n u t) → Weak n t u
       equal-or u p e (inl q) = inl q
       equal-or u p e (inr (inl q)) = inr q
       equal-or u p e (inr (inr q)) = inr (s .preferred u p (sym e) (λ y. q .lacks (rw y at (q .has))))
 
-      compare : (u : List ℕ) → SatisfiesP n needs L u → (t ≡ u) ⊎ (Preferred n t u ⊎ Preferred n u t) → Dec (slots t < slots u) → NoWorse n t u
+      compare : (u : List ℕ) → Satisfies n needs c L u → (t ≡ u) ⊎ (Preferred n t u ⊎ Preferred n u t) → Dec (slots t < slots u) → NoWorse n t u
       compare u p o (yes h) = inl h
       compare u p o (no h) = let e : slots t ≡ slots u = omega (arith, s .shortest u p) in inr (e, equal-or u p e o)
 
   -- where a list within the limit satisfies P there is a best one
-  pub best-some : (u : List ℕ) → SatisfiesP n needs L u → (t : List ℕ) × (best n (keptb needs) L ≡ some t)
-  best-some u s = go (best n (keptb needs) L) (best-is n needs L)
+  pub best-some : (u : List ℕ) → Satisfies n needs c L u → (t : List ℕ) × (best n (runsb n needs c) L ≡ some t)
+  best-some u s = go (best n (runsb n needs c) L) (best-is n needs c L)
     where
-      go : (o : Option (List ℕ)) → BestWithin n L Keeps o → (t : List ℕ) × (o ≡ some t)
+      go : (o : Option (List ℕ)) → BestWithin n L (Runs n needs c) o → (t : List ℕ) × (o ≡ some t)
       go none h = let w = program L u .0 s in absurd (h u (w .0) (w .1))
       go (some t) h = (t, refl)
 
   -- and there is none exactly where no list within the limit satisfies P
-  pub best-none : (best n (keptb needs) L ≡ none) ↔ ((t : List ℕ) → SatisfiesP n needs L t → ⊥)
-  best-none = (λ e t s. let w = program L t .0 s in (rw e at (best-is n needs L)) t (w .0) (w .1), λ f. go f (best n (keptb needs) L) (best-is n needs L))
+  pub best-none : (best n (runsb n needs c) L ≡ none) ↔ ((t : List ℕ) → Satisfies n needs c L t → ⊥)
+  best-none = (λ e t s. let w = program L t .0 s in (rw e at (best-is n needs c L)) t (w .0) (w .1), λ f. go f (best n (runsb n needs c) L) (best-is n needs c L))
     where
-      go : ((t : List ℕ) → SatisfiesP n needs L t → ⊥) → (o : Option (List ℕ)) → BestWithin n L Keeps o → o ≡ none
+      go : ((t : List ℕ) → Satisfies n needs c L t → ⊥) → (o : Option (List ℕ)) → BestWithin n L (Runs n needs c) o → o ≡ none
       go f none h = refl
       go f (some t) h = absurd (f t (program L t .1 (h .0, h .1)))

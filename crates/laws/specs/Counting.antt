@@ -1,12 +1,12 @@
 -- Lists without repeats, the pigeonhole law, counts and maxima. Assumes nothing.
-use mathlib.Core.Path.{_≡_, refl, sym, ap}
-use mathlib.Core.Logic.{_⊎_, inl, inr, _↔_}
+use mathlib.Core.Path.{_≡_, refl, sym, ap, _∙_}
+use mathlib.Core.Logic.{_⊎_, inl, inr, ⊎-elim, _↔_}
 use mathlib.Core.Bool.{Bool}
-use mathlib.Core.List.{List, [], _∷_, map, List·Memᴰ, List·Memᴰ·head, List·Memᴰ·tail, List·Memᴰ·cases-cons, List·Memᴰ·not-nil}
-use Prim.Native.Nat.{ℕ, zero, suc, _≤_, _<_, max}
+use mathlib.Core.List.{List, [], _∷_, _++_, map, List·Memᴰ, List·Memᴰ·head, List·Memᴰ·tail, List·Memᴰ·cases-cons, List·Memᴰ·not-nil, List·Memᴰ·append-cases, Memᴰ·append-left, Memᴰ·append-right}
+use Prim.Native.Nat.{ℕ, zero, suc, _+_, _≤_, _<_, max}
 use native.Mathlib.Omega.{arith}
 use native.Mathlib.Decide.{ℕ-discrete}
-use lib.ListN.{length, length-map}
+use lib.ListN.{length, length-map, length-append}
 use lib.Dec.{T}
 use Rattle.rules.specs.Basics.{at, range, filter, count, most, largest, Distinct}
 use Rattle.laws.specs.Lists.{Rising, range-in, range-all, range-rising, filter-mem, filter-mem⁻¹, filter-rising, map-mem⁻¹}
@@ -43,16 +43,33 @@ less {A} x (y ∷ ys) m = go (List·Memᴰ·cases-cons m) (less x ys)
         pick z (inl q) = inr (List·Memᴰ·head q)
         pick z (inr q) = more z (r w .other z q)
 
-pub pigeonhole : {A : Type 0} (xs ys : List A) → Distinct xs → ((z : A) → List·Memᴰ z xs → List·Memᴰ z ys) → length xs ≤ length ys
-pigeonhole [] ys d h = omega arith
-pigeonhole {A} (x ∷ xs) ys d h = go (less x ys (h x (List·Memᴰ·head refl))) (pigeonhole xs)
+-- each of the distinct xs goes with an entry of ys, and no two of them with the same one
+pub pigeonhole-by : {A B : Type 0} (R : A → B → Type 0) (xs : List A) (ys : List B) → Distinct xs → ((x : A) → List·Memᴰ x xs → (y : B) × List·Memᴰ y ys × R x y)
+    → ((x z : A) (y : B) → List·Memᴰ x xs → List·Memᴰ z xs → R x y → R z y → x ≡ z) → length xs ≤ length ys
+pigeonhole-by R [] ys d h one = omega arith
+pigeonhole-by {A} {B} R (x ∷ xs) ys d h one = go (h x (List·Memᴰ·head refl)) (pigeonhole-by R xs)
   where
-    go : (w : Less x ys) → ((zs : List A) → Distinct xs → ((z : A) → List·Memᴰ z xs → List·Memᴰ z zs) → length xs ≤ length zs) → suc (length xs) ≤ length ys
-    go w r = omega (arith, w .size, r (w .rest) (d .1) (λ z m. pick z m (w .other z (h z (List·Memᴰ·tail m)))))
+    go : (y : B) × List·Memᴰ y ys × R x y
+        → ((zs : List B) → Distinct xs → ((z : A) → List·Memᴰ z xs → (y : B) × List·Memᴰ y zs × R z y) → ((a b : A) (y : B) → List·Memᴰ a xs → List·Memᴰ b xs → R a y → R b y → a ≡ b) → length xs ≤ length zs)
+        → suc (length xs) ≤ length ys
+    go (y, m, r) rec = omega (arith, w .size, rec (w .rest) (d .1) other (λ a b c p q. one a b c (List·Memᴰ·tail p) (List·Memᴰ·tail q)))
       where
-        pick : (z : A) → List·Memᴰ z xs → (z ≡ x) ⊎ List·Memᴰ z (w .rest) → List·Memᴰ z (w .rest)
-        pick z m (inl e) = absurd (d .0 (rw e at m))
-        pick z m (inr k) = k
+        w : Less y ys
+        w = less y ys m
+
+        other : (z : A) → List·Memᴰ z xs → (v : B) × List·Memᴰ v (w .rest) × R z v
+        other z k = let v = h z (List·Memᴰ·tail k) in
+            (v .0, ⊎-elim (λ e. absurd (d .0 (rw (one x z y (List·Memᴰ·head refl) (List·Memᴰ·tail k) r (rw e at (v .2))) k))) (λ q. q) (w .other (v .0) (v .1)), v .2)
+
+pub pigeonhole : {A : Type 0} (xs ys : List A) → Distinct xs → ((z : A) → List·Memᴰ z xs → List·Memᴰ z ys) → length xs ≤ length ys
+pigeonhole xs ys d h = pigeonhole-by (λ x y. x ≡ y) xs ys d (λ x m. (x, h x m, refl)) (λ x z y _ _ p q. p ∙ sym q)
+
+pub distinct-append : {A : Type 0} (xs ys : List A) → Distinct xs → Distinct ys → ((z : A) → List·Memᴰ z xs → List·Memᴰ z ys → ⊥) → Distinct (xs ++ ys)
+distinct-append [] ys d e h = e
+distinct-append (x ∷ xs) ys d e h = (
+  λ m. ⊎-elim (d .0) (h x (List·Memᴰ·head refl)) (List·Memᴰ·append-cases xs m),
+  distinct-append xs ys (d .1) e (λ z m. h z (List·Memᴰ·tail m)),
+)
 
 -- a map that tells the entries apart keeps them distinct
 pub map-distinct : (f : ℕ → ℕ) (xs : List ℕ) → Distinct xs → ((i j : ℕ) → List·Memᴰ i xs → List·Memᴰ j xs → f i ≡ f j → i ≡ j) → Distinct (map f xs)
@@ -74,7 +91,7 @@ passing-in p n i = (
   λ h. filter-mem p (range n 0) i (range-all n 0 i (omega arith) (omega (arith, h .0))) (h .1),
 )
 
-passing-distinct : (p : ℕ → Bool) (n : ℕ) → Distinct (passing p n)
+pub passing-distinct : (p : ℕ → Bool) (n : ℕ) → Distinct (passing p n)
 passing-distinct p n = rising-distinct (passing p n) (filter-rising p (range n 0) (range-rising n 0))
 
 pub range-below : (n i : ℕ) → List·Memᴰ i (range n 0) ↔ (i < n)
@@ -97,6 +114,34 @@ count-lt p q n x h l a b = pigeonhole (x ∷ passing p n) (passing q n) (λ m. a
     go : (i : ℕ) → (i ≡ x) ⊎ List·Memᴰ i (passing p n) → List·Memᴰ i (passing q n)
     go i (inl e) = passing-in q n i .1 (rw e (l, b))
     go i (inr m) = let w = passing-in p n i .0 m in passing-in q n i .1 (w .0, h i (w .0) (w .1))
+
+-- at most one more
+pub count-suc : (p q : ℕ → Bool) (n x : ℕ) → ((i : ℕ) → i < n → T (q i) → (i ≡ x) ⊎ T (p i)) → count q n ≤ suc (count p n)
+unfolding count
+count-suc p q n x h = pigeonhole (passing q n) (x ∷ passing p n) (passing-distinct q n) (λ i m. let w = passing-in q n i .0 m in
+    ⊎-elim (λ e. List·Memᴰ·head e) (λ t. List·Memᴰ·tail (passing-in p n i .1 (w .0, t))) (h i (w .0) (w .1)))
+
+-- none
+pub count-none : (p : ℕ → Bool) (n : ℕ) → ((i : ℕ) → i < n → ¬ T (p i)) → count p n ≡ 0
+unfolding count
+count-none p n h = omega (arith, pigeonhole (passing p n) [] (passing-distinct p n) (λ i m. let w = passing-in p n i .0 m in absurd (h i (w .0) (w .1))))
+
+-- all of them
+pub count-all : (p : ℕ → Bool) (n : ℕ) → ((i : ℕ) → i < n → T (p i)) → n ≤ count p n
+unfolding count
+count-all p n h = omega (arith, length-range n 0, pigeonhole (range n 0) (passing p n) (rising-distinct (range n 0) (range-rising n 0)) (λ i m. let l = range-below n i .0 m in passing-in p n i .1 (l, h i l)))
+
+-- no more than of two others together
+pub count-either : (q p r : ℕ → Bool) (n : ℕ) → ((i : ℕ) → i < n → T (q i) → T (p i) ⊎ T (r i)) → count q n ≤ count p n + count r n
+unfolding count
+count-either q p r n h = omega (arith, length-append (passing p n) (passing r n), pigeonhole (passing q n) (passing p n ++ passing r n) (passing-distinct q n) (λ i m. let w = passing-in q n i .0 m in
+    ⊎-elim (λ t. Memᴰ·append-left (passing r n) (passing-in p n i .1 (w .0, t))) (λ t. Memᴰ·append-right (passing p n) (passing-in r n i .1 (w .0, t))) (h i (w .0) (w .1))))
+
+
+-- no more than there are
+pub count-most : (p : ℕ → Bool) (n : ℕ) → count p n ≤ n
+unfolding count
+count-most p n = omega (arith, length-range n 0, pigeonhole (passing p n) (range n 0) (passing-distinct p n) (λ i m. range-below n i .1 (passing-in p n i .0 m .0)))
 
 -- what passes has distinct values from 1 to B: there are at most B
 pub count-values : (p : ℕ → Bool) (n : ℕ) (f : ℕ → ℕ) (B : ℕ) → ((i j : ℕ) → i < n → j < n → T (p i) → T (p j) → f i ≡ f j → i ≡ j)
@@ -139,6 +184,13 @@ unfolding largest
 at-largest [] i h = absurd (omega arith)
 at-largest (x ∷ t) zero h = omega arith
 at-largest (x ∷ t) (suc i) h = omega (arith, at-largest t i (omega arith))
+
+-- past the end of a list its entries count as 0
+pub at-most : (t : List ℕ) (i : ℕ) → at t i ≤ largest t
+unfolding largest
+at-most [] i = omega arith
+at-most (x ∷ t) zero = omega arith
+at-most (x ∷ t) (suc i) = omega (arith, at-most t i)
 
 pub largest-lt : (t : List ℕ) (C : ℕ) → 0 < C → ((i : ℕ) → i < length t → at t i < C) → largest t < C
 unfolding largest

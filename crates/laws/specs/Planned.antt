@@ -12,11 +12,11 @@ use Rattle.rules.specs.Basics.{at, tabulate, largest}
 use Rattle.rules.specs.Numbers.{centimetres}
 use Rattle.rules.specs.Fields.{Answer, refused, got}
 use Rattle.rules.specs.Needs.{Gives, NeedsIn, Circle, circleFree}
-use Rattle.rules.specs.JobFile.{JobFile, nthJob}
+use Rattle.rules.specs.JobFile.{JobFile, nthJob, mostBoards}
 use Rattle.rules.specs.Program.{SatisfiesP, slots, Fits, Kept, keptb}
 use Rattle.rules.specs.Windows.{width}
 use Rattle.rules.specs.Preference.{best}
-use Rattle.rules.specs.Boards.{BoardRules, boards}
+use Rattle.rules.specs.Boards.{BoardRules, boards, Capped, runsb}
 use Rattle.rules.specs.Table.{Row, Table, starts, boardsOf, encode, decode}
 use Rattle.rules.specs.Answers.{tableOf, tabled, planTable}
 use Rattle.laws.specs.Tests.{T-leb, T-eqb}
@@ -27,8 +27,9 @@ use Rattle.laws.specs.Fields.{ask-yes}
 use Rattle.laws.specs.JobFile.{Readable}
 use Rattle.laws.specs.Program.{program-is}
 use Rattle.laws.specs.Circles.{circle-free}
-use Rattle.laws.specs.Best.{Shortest, best-found, best-none, best-some}
-use Rattle.laws.specs.BoardLaws.{boards-length, boards-low, boards-rules, boards-width}
+use Rattle.laws.specs.Caps.{capped-more}
+use Rattle.laws.specs.Best.{Satisfies, Shortest, best-uncapped, best-found, best-none, best-some}
+use Rattle.laws.specs.BoardLaws.{boards-length, boards-low, boards-rules, boards-capped, width-capped}
 use Rattle.laws.specs.Table.{RowOk, RowsOk, TableOk, decode-encode}
 use Rattle.laws.specs.Check.{TableFor}
 
@@ -43,65 +44,68 @@ module _ (f : JobFile) (ok : Readable f) where
   needs-in : NeedsIn (length (f .jobs)) (f .needs)
   needs-in g k a = let w = ok .needs-in g k a in (w .0, w .1)
 
+  -- as many boards as the file is wide ask nothing
+  pub wide-enough : (c : ℕ) → width (length (f .jobs)) (f .needs) (f .limit) ≤ c
+      → best (length (f .jobs)) (runsb (length (f .jobs)) (f .needs) c) (f .limit) ≡ best (length (f .jobs)) (keptb (f .needs)) (f .limit)
+  wide-enough c h = best-uncapped (length (f .jobs)) (f .needs) c (f .limit) (λ u k l.
+      capped-more (length (f .jobs)) (width (length (f .jobs)) (f .needs) (f .limit)) c u h (width-capped (length (f .jobs)) (f .needs) needs-in u (l .len) k (f .limit) l))
+
   module _ (free : ¬ (Circle (f .needs))) (narrow : width (length (f .jobs)) (f .needs) (f .limit) ≤ maxWidth) where
     -- the questions before 13 are yes
-    pub asked-13 : planTable f ≡ tabled f (best (length (f .jobs)) (keptb (f .needs)) (f .limit))
+    pub asked-13 : planTable f ≡ tabled f (best (length (f .jobs)) (runsb (length (f .jobs)) (f .needs) (mostBoards f)) (f .limit))
     unfolding planTable
     asked-13 =
         ask-yes (circleFree (length (f .jobs)) (f .needs)) 11 _ (circle-free (length (f .jobs)) (f .needs) needs-in .1 free)
         ∙ ask-yes (leb (width (length (f .jobs)) (f .needs) (f .limit)) maxWidth) 12 _ (T-leb (width (length (f .jobs)) (f .needs) (f .limit)) maxWidth .1 narrow)
 
-    found : (o : Option (List ℕ)) (x : Answer Table) → tabled f o ≡ x → best (length (f .jobs)) (keptb (f .needs)) (f .limit) ≡ o → planTable f ≡ x
+    found : (o : Option (List ℕ)) (x : Answer Table) → tabled f o ≡ x → best (length (f .jobs)) (runsb (length (f .jobs)) (f .needs) (mostBoards f)) (f .limit) ≡ o → planTable f ≡ x
     found o x e q = asked-13 ∙ ap (tabled f) q ∙ e
 
-    -- demand 3: 13 exactly where no start list that satisfies P fits the limit
-    pub refused-13 : (planTable f ≡ refused 13) ↔ ((t : List ℕ) → SatisfiesP (length (f .jobs)) (f .needs) (f .limit) t → ⊥)
+    -- demand 3: 13 exactly where no start list that satisfies P, with no more jobs in any slot than the file has boards, fits the limit
+    pub refused-13 : (planTable f ≡ refused 13) ↔ ((t : List ℕ) → Satisfies (length (f .jobs)) (f .needs) (mostBoards f) (f .limit) t → ⊥)
     unfolding tabled
-    refused-13 = (λ e. none-is .0 (is-none (best (length (f .jobs)) (keptb (f .needs)) (f .limit)) (sym asked-13 ∙ e)), λ h. found none (refused 13) refl (none-is .1 h))
+    refused-13 = (λ e. none-is .0 (is-none (best (length (f .jobs)) (runsb (length (f .jobs)) (f .needs) (mostBoards f)) (f .limit)) (sym asked-13 ∙ e)), λ h. found none (refused 13) refl (none-is .1 h))
       where
-        none-is : (best (length (f .jobs)) (keptb (f .needs)) (f .limit) ≡ none) ↔ ((t : List ℕ) → SatisfiesP (length (f .jobs)) (f .needs) (f .limit) t → ⊥)
-        none-is = best-none (length (f .jobs)) (f .needs) (f .limit) (ok .distinct) needs-in (ok .limit-in .0)
+        none-is : (best (length (f .jobs)) (runsb (length (f .jobs)) (f .needs) (mostBoards f)) (f .limit) ≡ none) ↔ ((t : List ℕ) → Satisfies (length (f .jobs)) (f .needs) (mostBoards f) (f .limit) t → ⊥)
+        none-is = best-none (length (f .jobs)) (f .needs) (mostBoards f) (f .limit) (ok .distinct) needs-in (ok .limit-in .0)
 
         is-none : (o : Option (List ℕ)) → tabled f o ≡ refused 13 → o ≡ none
         is-none none e = refl
         is-none (some t) e = absurd (let z : _≡_ {A = ℕ} 0 1 = cc in omega arith)
 
     -- a table exactly where one does
-    pub written-where : (u : List ℕ) → SatisfiesP (length (f .jobs)) (f .needs) (f .limit) u → (t : List ℕ) × Shortest (length (f .jobs)) (f .needs) (f .limit) t × (planTable f ≡ got (tableOf f t))
+    pub written-where : (u : List ℕ) → Satisfies (length (f .jobs)) (f .needs) (mostBoards f) (f .limit) u → (t : List ℕ) × Shortest (length (f .jobs)) (f .needs) (mostBoards f) (f .limit) t × (planTable f ≡ got (tableOf f t))
     unfolding tabled
     written-where u s =
-        let w = best-some (length (f .jobs)) (f .needs) (f .limit) (ok .distinct) needs-in (ok .limit-in .0) u s in
-        (w .0, best-found (length (f .jobs)) (f .needs) (f .limit) (ok .distinct) needs-in (ok .limit-in .0) (w .0) (w .1), found (some (w .0)) (got (tableOf f (w .0))) refl (w .1))
+        let w = best-some (length (f .jobs)) (f .needs) (mostBoards f) (f .limit) (ok .distinct) needs-in (ok .limit-in .0) u s in
+        (w .0, best-found (length (f .jobs)) (f .needs) (mostBoards f) (f .limit) (ok .distinct) needs-in (ok .limit-in .0) (w .0) (w .1), found (some (w .0)) (got (tableOf f (w .0))) refl (w .1))
 
     -- and that table is of the shortest, preferred start list, with the boards that it gets
-    pub written-is : (T : Table) → planTable f ≡ got T → (t : List ℕ) × Shortest (length (f .jobs)) (f .needs) (f .limit) t × (T ≡ tableOf f t)
+    pub written-is : (T : Table) → planTable f ≡ got T → (t : List ℕ) × Shortest (length (f .jobs)) (f .needs) (mostBoards f) (f .limit) t × (T ≡ tableOf f t)
     unfolding tabled
-    written-is T e = go (best (length (f .jobs)) (keptb (f .needs)) (f .limit)) refl (sym asked-13 ∙ e)
+    written-is T e = go (best (length (f .jobs)) (runsb (length (f .jobs)) (f .needs) (mostBoards f)) (f .limit)) refl (sym asked-13 ∙ e)
       where
-        go : (o : Option (List ℕ)) → best (length (f .jobs)) (keptb (f .needs)) (f .limit) ≡ o → tabled f o ≡ got T → (t : List ℕ) × Shortest (length (f .jobs)) (f .needs) (f .limit) t × (T ≡ tableOf f t)
+        go : (o : Option (List ℕ)) → best (length (f .jobs)) (runsb (length (f .jobs)) (f .needs) (mostBoards f)) (f .limit) ≡ o → tabled f o ≡ got T → (t : List ℕ) × Shortest (length (f .jobs)) (f .needs) (mostBoards f) (f .limit) t × (T ≡ tableOf f t)
         go none q h = absurd (let z : _≡_ {A = ℕ} 0 1 = cc in omega arith)
-        go (some t) q h = (t, best-found (length (f .jobs)) (f .needs) (f .limit) (ok .distinct) needs-in (ok .limit-in .0) t q, let z : tableOf f t ≡ T = cc in sym z)
+        go (some t) q h = (t, best-found (length (f .jobs)) (f .needs) (mostBoards f) (f .limit) (ok .distinct) needs-in (ok .limit-in .0) t q, let z : tableOf f t ≡ T = cc in sym z)
 
     -- ---- what the bytes of such a table can hold
 
-    module _ (t : List ℕ) (short : Shortest (length (f .jobs)) (f .needs) (f .limit) t) where
+    module _ (t : List ℕ) (short : Shortest (length (f .jobs)) (f .needs) (mostBoards f) (f .limit) t) where
       kept : Kept (Gives (f .needs)) (at t) × Fits (length (f .jobs)) (slots t) t
       kept = program-is (length (f .jobs)) (f .needs) (slots t) t (ok .distinct) needs-in .0 (short .satisfies)
 
-      pub few-boards : largest (boards (length (f .jobs)) (f .needs) t) ≤ maxWidth
-      few-boards = omega (
-        arith,
-        boards-width (length (f .jobs)) (f .needs) needs-in t (kept .1 .len) (kept .0) (f .limit) (ok .limit-in .0) (record { len = kept .1 .len; below = λ i h. omega (arith, kept .1 .below i h, short .fits) }),
-      )
+      pub few-boards : largest (boards (length (f .jobs)) (f .needs) t) ≤ mostBoards f
+      few-boards = boards-capped (length (f .jobs)) (f .needs) needs-in t (kept .1 .len) (kept .0) (mostBoards f) (short .capped)
 
       pub table-ok : TableOk (tableOf f t)
       unfolding tableOf
       table-ok = record {
         slots-in = omega (arith, short .fits, ok .limit-in .1);
-        boards-in = omega (arith, few-boards);
+        boards-in = omega (arith, few-boards, ok .boards-in .1);
         rows-ok = rows-ok _ (length (f .jobs)) 0 (λ i _ h. record {
           start-in = omega (arith, kept .1 .below i (omega arith), short .fits, ok .limit-in .1);
-          board-in = omega (arith, few-boards, at-largest (boards (length (f .jobs)) (f .needs) t) i (omega (arith, boards-length (length (f .jobs)) (f .needs) needs-in t (kept .1 .len) (kept .0))));
+          board-in = omega (arith, few-boards, ok .boards-in .1, at-largest (boards (length (f .jobs)) (f .needs) t) i (omega (arith, boards-length (length (f .jobs)) (f .needs) needs-in t (kept .1 .len) (kept .0))));
           level-in = centimetres-in (nthJob (f .jobs) i .level) (ok .levels-in (nthJob (f .jobs) i) (nth-mem (f .jobs) i _ (omega arith)));
           name-ok = ok .names-in (nthJob (f .jobs) i) (nth-mem (f .jobs) i _ (omega arith));
         });
@@ -130,6 +134,7 @@ module _ (f : JobFile) (ok : Readable f) where
           levels = λ i h. ap (λ (r : Row). r .level) (tabulate-at _ (length (f .jobs)) 0 i _ h) ∙ ap (λ (j : ℕ). centimetres (nthJob (f .jobs) j .level)) (omega arith);
         };
         satisfies = subst (SatisfiesP (length (f .jobs)) (f .needs) (slots t)) (sym starts-are) (short .satisfies);
+        capped = subst (Capped (length (f .jobs)) (mostBoards f)) (sym starts-are) (short .capped);
         sizes = record {
           slots-are = ap slots (sym starts-are);
           fits = short .fits;

@@ -6,8 +6,9 @@ use Prim.Native.Nat.{ℕ, _+_, _-_, _^_, _≤_, _<_}
 use native.Mathlib.Omega.{arith}
 use lib.Dec.{ltb, leb}
 use Rattle.rules.specs.Basics.{at}
-use Rattle.rules.specs.Needs.{Need, Gives, NeedsIn, circleFree}
-use Rattle.rules.specs.Program.{slots, Kept, keptb}
+use Rattle.rules.specs.Needs.{Need, NeedsIn, circleFree}
+use Rattle.rules.specs.Program.{slots}
+use Rattle.rules.specs.Boards.{Runs, runsb}
 use Rattle.rules.specs.Preference.{best}
 use Rattle.rules.specs.Windows.{release, swap, tail, width}
 use Rattle.laws.specs.Tests.{T-true, T-ltb, T-leb}
@@ -29,8 +30,8 @@ use Rattle.optimal.specs.Given.{Given}
 use Rattle.optimal.specs.SearchIsBest.{answerOf, search-is-best}
 
 -- the tables of a file: the arrays of its needs, and its windows
-abbrev pub fileTables : ℕ → List Need → List ℕ → List ℕ → Tables
-fileTables n needs givers takers = tables givers takers (fileWindows n needs .released) (fileWindows n needs .followed)
+abbrev pub fileTables : ℕ → List Need → List ℕ → List ℕ → ℕ → Tables
+fileTables n needs givers takers cap = tables givers takers (fileWindows n needs .released) (fileWindows n needs .followed) cap
 
 module _ (n : ℕ) (needs : List Need) (limit : ℕ) (n-le : n ≤ 64) (limit-le : limit ≤ 64) (needs-in : NeedsIn n needs) (free : circleFree n needs ≡ true) where
   -- releases and tails by place
@@ -50,10 +51,10 @@ module _ (n : ℕ) (needs : List Need) (limit : ℕ) (n-le : n ≤ 64) (limit-le
   }
 
   -- no list that keeps the rules has fewer slots than the windows leave
-  least-slots : AtLeast n (λ u. Kept (Gives needs) (at u)) (fileWindows n needs .least)
-  least-slots u k e =
+  pub least-slots : (cap : ℕ) → AtLeast n (Runs n needs cap) (fileWindows n needs .least)
+  least-slots cap u k e =
       let b = release-bounds n needs needs-in in
-      file-least n n-le needs needs-in free (slots u) .1 (λ i l. omega (arith, b .early u k i l, b .late u (slots u) k (slots-fits n (slots u) u e (omega arith)) i l))
+      file-least n n-le needs needs-in free (slots u) .1 (λ i l. omega (arith, b .early u (k .kept) i l, b .late u (slots u) (k .kept) (slots-fits n (slots u) u e (omega arith)) i l))
 
   released-is : (s : ℕ) → s ≤ 65 → Is n (setAt (fileWindows n needs .released) s) (λ i. release n needs i < s)
   released-is s h = record {
@@ -69,11 +70,15 @@ module _ (n : ℕ) (needs : List Need) (limit : ℕ) (n-le : n ≤ 64) (limit-le
     bound = λ p m. followed-jobs rs ts n n-le k p (omega arith) m;
   }
 
-  -- the search, from the least makespan that the windows leave, gives the best start list of the file
-  pub file-is-best : (givers takers : List ℕ) → GiversAre givers needs → ((p : ℕ) → p < 64 → at givers p < 2 ^ 64) → TakersAre takers needs → 0 < n → 0 < limit
-      → shortest (fileTables n needs givers takers) (limit + 1 - fileWindows n needs .least) (fileWindows n needs .least) ≡ answerOf (best n (keptb needs) limit)
-  file-is-best givers takers givers-are givers-small takers-are n-pos limit-pos =
-      search-is-best given limit-pos (fileWindows n needs .least) (omega (arith, file-least n n-le needs needs-in free (fileWindows n needs .least) .0 (omega arith) 0 n-pos)) least-slots
+  -- which is at least one
+  pub least-pos : 0 < n → 0 < fileWindows n needs .least
+  least-pos n-pos = omega (arith, file-least n n-le needs needs-in free (fileWindows n needs .least) .0 (omega arith) 0 n-pos)
+
+  -- the search, from a makespan that no list is below, gives the best start list of the file
+  pub file-is-best : (cap : ℕ) (givers takers : List ℕ) → GiversAre givers needs → ((p : ℕ) → p < 64 → at givers p < 2 ^ 64) → TakersAre takers needs → 0 < limit
+      → (least : ℕ) → 0 < least → AtLeast n (Runs n needs cap) least
+      → shortest (fileTables n needs givers takers cap) (limit + 1 - least) least ≡ answerOf (best n (runsb n needs cap) limit)
+  file-is-best cap givers takers givers-are givers-small takers-are limit-pos least pos low = search-is-best given limit-pos least pos low
     where
       given : Given
       given = record {
@@ -82,7 +87,7 @@ module _ (n : ℕ) (needs : List Need) (limit : ℕ) (n-le : n ≤ 64) (limit-le
         limit = limit;
         ρ = release n needs;
         θ = tail n needs;
-        T = fileTables n needs givers takers;
+        T = fileTables n needs givers takers cap;
         n-le = n-le;
         limit-le = limit-le;
         needs-in = needs-in;

@@ -1,23 +1,25 @@
--- A slot of the search over sets: its candidates are those of the lists, and its test of a subset is exactness. Assumes nothing.
+-- A slot of the search over sets: its candidates are those of the lists, and its tests of a subset say what those of the lists do. Assumes nothing.
 use mathlib.Core.Path.{_≡_, sym, ap, _∙_}
-use mathlib.Core.Logic.{_↔_}
-use mathlib.Core.Bool.{true, and-eq-true-iff}
+use mathlib.Core.Logic.{_⊎_, ⊎-elim, _↔_, Iff·trans}
+use mathlib.Core.Bool.{true, false, and-eq-true-iff}
 use mathlib.Core.List.{List, List·Memᴰ}
 use Prim.Native.Nat.{ℕ, suc, _+_, _-_, _≤_, _<_}
 use native.Mathlib.Omega.{arith}
+use lib.Dec.{leb}
 use Rattle.rules.specs.Basics.{at}
 use Rattle.rules.specs.Needs.{Gives}
+use Rattle.laws.specs.Tests.{T-true, T-leb}
 use Rattle.jobset.specs.declared.Set.{Set}
-use Rattle.jobset.specs.Sets.{setAt, member, minus, intersection, isSubset, isEmpty, isOne}
+use Rattle.jobset.specs.Sets.{setAt, member, minus, intersection, isSubset, isEmpty, isOne, size}
 use Rattle.jobset.specs.Membership.{in-intersection}
 use Rattle.explore.specs.declared.Candidates.{Candidates}
-use Rattle.explore.specs.Slot.{windowOf, isForced, isTied, candidatesAt, exact}
-use Rattle.explore.specs.CandidateLaws.{in-forced, in-tied, Tying, in-tying, exact-iff}
+use Rattle.explore.specs.Slot.{windowOf, isForced, isTied, candidatesIn, candidatesAt, suits, served}
+use Rattle.explore.specs.CandidateLaws.{in-forced, in-tied, Tying, in-tying, suits-one, suits-few, served-iff}
 use Rattle.dominance.specs.Tests.{GiverBefore}
 use Rattle.dominance.specs.States.{Instance}
 use Rattle.dominance.specs.Windows.{in-window}
 use Rattle.dominance.specs.Exact.{Forced, Tied, Exact}
-use Rattle.optimal.specs.Jobs.{Is, Sole, is-iff, is-minus, is-intersection, at-place, subset-is, empty-is, one-is}
+use Rattle.optimal.specs.Jobs.{Is, Sole, is-iff, is-minus, is-intersection, at-place, subset-is, empty-is, one-is, few-is}
 use Rattle.optimal.specs.Given.{Given, givers-is, takers-iff, within, At}
 
 module _ {G : Given} {C : ℕ} {h : C ≤ G .limit} {k : ℕ} (x : At G C h (suc k)) where
@@ -26,14 +28,18 @@ module _ {G : Given} {C : ℕ} {h : C ≤ G .limit} {k : ℕ} (x : At G C h (suc
   I = within G C h
 
   abbrev pub c : Candidates
-  c = candidatesAt (G .T) (suc k) (x .s) (x .done) (x .last)
+  c = candidatesIn (G .T) (suc k) (x .s) (x .done) (x .last)
+
+  -- the same seated
+  abbrev pub seats : Candidates
+  seats = candidatesAt (G .T) (suc k) (x .s) (x .done) (x .last)
 
   -- ---- the jobs of the window that have not run
 
   abbrev window-set : Set
   window-set = windowOf (G .T .released) (G .T .followed) (suc k) (x .s)
 
-  abbrev free : Set
+  abbrev pub free : Set
   free = minus window-set (x .done)
 
   is-window : Is (G .n) window-set (λ i. List·Memᴰ i (I .candidates (x .s)))
@@ -87,7 +93,7 @@ module _ {G : Given} {C : ℕ} {h : C ≤ G .limit} {k : ℕ} (x : At G C h (suc
   -- ---- forced and tied
 
   pub is-forced : Is (G .n) (c .forced) (Forced I (x .s) (x .t))
-  unfolding candidatesAt
+  unfolding candidatesIn
   is-forced = record {
     to = λ i l m.
         let w = law (63 - i) .0 m in
@@ -117,7 +123,7 @@ module _ {G : Given} {C : ℕ} {h : C ≤ G .limit} {k : ℕ} (x : At G C h (suc
       tied-test i l .1 (d .able .ready, record { job = g .0; in-n = G .needs-in (g .0) i (g .1) .0; has = (g .1, g .2); only = λ j k w. d .able .take-one j (g .0) (w .0) (g .1) (w .1) (g .2) })
 
   pub is-tied : Is (G .n) (c .tied) (Tied I (x .s) (x .t))
-  unfolding candidatesAt
+  unfolding candidatesIn
   is-tied = record {
     to = λ i l m. let w = law (63 - i) .0 m in let f = is-free .to i l (w .1) in tied-job i l (f .0) (f .1) (w .2);
     from = λ i l d. law (63 - i) .1 (omega arith, is-free .from i l (d .candidate, λ z. omega (arith, d .able .free)), job-tied i l d);
@@ -129,11 +135,11 @@ module _ {G : Given} {C : ℕ} {h : C ≤ G .limit} {k : ℕ} (x : At G C h (suc
 
   -- ---- tying: the jobs of the slot before that have tied takers
 
-  abbrev Tying-job : ℕ → Type 0
+  abbrev pub Tying-job : ℕ → Type 0
   Tying-job g = (j : ℕ) × Gives (G .needs) g j × Tied I (x .s) (x .t) j × (at (x .t) g + 1 ≡ x .s)
 
-  is-tying : Is (G .n) (c .tying) Tying-job
-  unfolding candidatesAt
+  pub is-tying : Is (G .n) (c .tying) Tying-job
+  unfolding candidatesIn
   is-tying = record {
     to = λ g l m. taker g l (law (63 - g) .0 m);
     from = λ g l w.
@@ -160,22 +166,27 @@ module _ {G : Given} {C : ℕ} {h : C ≤ G .limit} {k : ℕ} (x : At G C h (suc
           let k = is-near (63 - w .taker) (b .1) .to g l (ap (λ (p : ℕ). member (intersection (setAt (G .T .givers) p) (x .last)) (63 - g)) e ∙ w .is-giver) in
           (63 - w .taker, k .0, tied-job (63 - w .taker) (b .1) (f .0) (f .1) (ap (λ (p : ℕ). isTied (x .done) (x .last) (setAt (G .T .givers) p)) e ∙ w .is-tied), k .1)
 
-  -- ---- the test of a subset of the tied jobs
+  -- ---- the test of a subset
 
-  module _ (X : Set) (A : List ℕ) (X-is : Is (G .n) X (λ i. List·Memᴰ i A)) (tied : (j : ℕ) → List·Memᴰ j A → Tied I (x .s) (x .t) j) where
+  module _ (X : Set) (A : List ℕ) (X-is : Is (G .n) X (λ i. List·Memᴰ i A)) where
+    -- job k of the subset takes from g
     abbrev Takes : ℕ → ℕ → Type 0
     Takes g k = List·Memᴰ k A × Gives (G .needs) g k
 
-    one-taker : (g : ℕ) → g < G .n → (isOne (intersection X (setAt (G .T .takers) (63 - g))) ≡ true) ↔ Sole (G .n) (Takes g)
-    one-taker g l = one-is (G .n-le) (is-intersection (setAt (G .T .takers) (63 - g)) X-is (λ i m. takers-iff G g i l m))
+    takers-are : (g : ℕ) → g < G .n → Is (G .n) (intersection X (setAt (G .T .takers) (63 - g))) (Takes g)
+    takers-are g l = is-intersection (setAt (G .T .takers) (63 - g)) X-is (λ i m. takers-iff G g i l m)
 
-    pub exact-test : (exact (G .T .takers) (c .tying) X ≡ true) ↔ Exact I (x .s) (x .t) A
-    exact-test = (to, from)
+    -- each tying job has exactly one taker in a subset of tied jobs
+    pub exact-test : ((j : ℕ) → List·Memᴰ j A → Tied I (x .s) (x .t) j) → (served (G .T .takers) (c .tying) false X ≡ true) ↔ Exact I (x .s) (x .t) A
+    exact-test tied = (to, from)
       where
-        law : (exact (G .T .takers) (c .tying) X ≡ true) ↔ ((p : ℕ) → p < 64 → member (c .tying) p ≡ true → isOne (intersection X (setAt (G .T .takers) p)) ≡ true)
-        law = exact-iff (G .T .takers) (c .tying) X
+        law : (served (G .T .takers) (c .tying) false X ≡ true) ↔ ((p : ℕ) → p < 64 → member (c .tying) p ≡ true → suits false (intersection X (setAt (G .T .takers) p)) ≡ true)
+        law = served-iff (G .T .takers) (c .tying) false X
 
-        to : exact (G .T .takers) (c .tying) X ≡ true → Exact I (x .s) (x .t) A
+        one-taker : (g : ℕ) → g < G .n → (suits false (intersection X (setAt (G .T .takers) (63 - g))) ≡ true) ↔ Sole (G .n) (Takes g)
+        one-taker g l = rw (suits-one (intersection X (setAt (G .T .takers) (63 - g)))) (one-is (G .n-le) (takers-are g l))
+
+        to : served (G .T .takers) (c .tying) false X ≡ true → Exact I (x .s) (x .t) A
         to e = record {
           tied = tied;
           one = λ g j k p q mj mk z. let w = sole g j p (tied j mj) z in w .only j (G .needs-in g j p .1) (mj, p) ∙ sym (w .only k (G .needs-in g k q .1) (mk, q));
@@ -185,16 +196,44 @@ module _ {G : Given} {C : ℕ} {h : C ≤ G .limit} {k : ℕ} (x : At G C h (suc
             sole : (g j : ℕ) → Gives (G .needs) g j → Tied I (x .s) (x .t) j → at (x .t) g + 1 ≡ x .s → Sole (G .n) (Takes g)
             sole g j p d z = let l = G .needs-in g j p .0 in one-taker g l .0 (law .0 e (63 - g) (omega arith) (is-tying .from g l (j, p, d, z)))
 
-        from : Exact I (x .s) (x .t) A → exact (G .T .takers) (c .tying) X ≡ true
+        from : Exact I (x .s) (x .t) A → served (G .T .takers) (c .tying) false X ≡ true
         from ex = law .1 (λ p l m.
             let b = is-tying .bound p m in
             let e : 63 - (63 - p) ≡ p = omega arith in
             let w = at-place is-tying p m in
             let k = ex .served (63 - p) (w .0) (w .1) (w .2) (w .3) in
-            ap (λ (q : ℕ). isOne (intersection X (setAt (G .T .takers) q))) (sym e)
+            ap (λ (q : ℕ). suits false (intersection X (setAt (G .T .takers) q))) (sym e)
             ∙ one-taker (63 - p) (b .1) .1 record {
               job = k .0;
               in-n = G .needs-in (63 - p) (k .0) (k .1) .1;
               has = (k .2, k .1);
               only = λ j i q. ex .one (63 - p) j (k .0) (q .1) (k .1) (q .0) (k .2) (w .3);
             })
+
+    -- each job of the slot before has at most one taker in a subset of forced and tied jobs
+    pub single-test : ((j : ℕ) → List·Memᴰ j A → Forced I (x .s) (x .t) j ⊎ Tied I (x .s) (x .t) j) → (served (G .T .takers) (c .tying) true X ≡ true)
+        ↔ ((g j k : ℕ) → Gives (G .needs) g j → Gives (G .needs) g k → List·Memᴰ j A → List·Memᴰ k A → at (x .t) g + 1 ≡ x .s → j ≡ k)
+    single-test able = (to, from)
+      where
+        law : (served (G .T .takers) (c .tying) true X ≡ true) ↔ ((p : ℕ) → p < 64 → member (c .tying) p ≡ true → suits true (intersection X (setAt (G .T .takers) p)) ≡ true)
+        law = served-iff (G .T .takers) (c .tying) true X
+
+        few-takers : (g : ℕ) → g < G .n → (suits true (intersection X (setAt (G .T .takers) (63 - g))) ≡ true) ↔ ((j k : ℕ) → j < G .n → k < G .n → Takes g j → Takes g k → j ≡ k)
+        few-takers g l = rw (suits-few (intersection X (setAt (G .T .takers) (63 - g)))) (Iff·trans (low (size (intersection X (setAt (G .T .takers) (63 - g))))) (few-is (G .n-le) (takers-are g l)))
+          where
+            low : (n : ℕ) → (leb n 1 ≡ true) ↔ (n ≤ 1)
+            low n = (λ e. T-leb n 1 .0 (T-true (leb n 1) .1 e), λ h. T-true (leb n 1) .0 (T-leb n 1 .1 h))
+
+        to : served (G .T .takers) (c .tying) true X ≡ true → (g j k : ℕ) → Gives (G .needs) g j → Gives (G .needs) g k → List·Memᴰ j A → List·Memᴰ k A → at (x .t) g + 1 ≡ x .s → j ≡ k
+        to e g j k p q mj mk z =
+            let l = G .needs-in g j p .0 in
+            let d : Tied I (x .s) (x .t) j = ⊎-elim (λ f. absurd (f .alone (g, p, z))) (λ d. d) (able j mj) in
+            few-takers g l .0 (law .0 e (63 - g) (omega arith) (is-tying .from g l (j, p, d, z))) j k (G .needs-in g j p .1) (G .needs-in g k q .1) (mj, p) (mk, q)
+
+        from : ((g j k : ℕ) → Gives (G .needs) g j → Gives (G .needs) g k → List·Memᴰ j A → List·Memᴰ k A → at (x .t) g + 1 ≡ x .s → j ≡ k) → served (G .T .takers) (c .tying) true X ≡ true
+        from one = law .1 (λ p l m.
+            let b = is-tying .bound p m in
+            let e : 63 - (63 - p) ≡ p = omega arith in
+            let w = at-place is-tying p m in
+            ap (λ (q : ℕ). suits true (intersection X (setAt (G .T .takers) q))) (sym e)
+            ∙ few-takers (63 - p) (b .1) .1 (λ j k _ _ u v. one (63 - p) j k (u .1) (v .1) (u .0) (v .0) (w .3)))

@@ -1,18 +1,22 @@
 -- What the planner gives, and what its parts are given. Assumes nothing.
 use mathlib.Core.Path.{_≡_}
 use mathlib.Core.List.{List}
-use Prim.Native.Nat.{ℕ, _≤_}
+use Prim.Native.Nat.{ℕ, _+_, _-_, _/_, _≤_, _<_, max}
 use lib.ListN.{length}
-use lib.Dec.{T}
+use lib.Dec.{T, leb}
+use Rattle.rules.specs.Basics.{choose}
 use Rattle.rules.specs.Fields.{got, after}
 use Rattle.rules.specs.Needs.{circleFree}
-use Rattle.rules.specs.JobFile.{JobFile, readFile}
+use Rattle.rules.specs.JobFile.{JobFile, mostBoards, readFile}
 use Rattle.rules.specs.Windows.{width}
+use Rattle.rules.specs.Preference.{best}
+use Rattle.rules.specs.Boards.{Runs, runsb}
 use Rattle.rules.specs.Answers.{planTable, Outcome, cleared, written}
 use Rattle.laws.specs.JobFile.{Readable}
 use Rattle.jobset.specs.Arrays.{giversIn, takersIn, releasedIn, followedIn}
 use Rattle.jobfile.specs.Reading.{Held}
 use Rattle.windows.specs.Windows.{fileWindows}
+use Rattle.dominance.specs.Count.{AtLeast}
 use Rattle.planner.specs.declared.Planned.{Planned}
 use Rattle.planner.specs.declared.Planned.the-variants.{Table, Refused}
 
@@ -30,17 +34,29 @@ pub record JobsRead (bs : List ℕ) (n L : ℕ) (offsets givers takers : List �
   pub file : JobFile
   pub read : readFile bs ≡ got file
   pub keeps : Readable file
-  pub held : Held bs file (record { fields = file .fields; limit = L; jobs = n; offsets = offsets; givers = givers; takers = takers })
+  pub held : Held bs file (record { fields = file .fields; limit = L; sockets = file .sockets; jobs = n; offsets = offsets; givers = givers; takers = takers })
 
 -- the number of its jobs
 abbrev pub size : JobFile → ℕ
 size f = length (f .jobs)
 
--- and it has no circle and is not too wide; the tables are its needs and its windows
-pub record WindowsRead (bs : List ℕ) (n L : ℕ) (offsets tables : List ℕ) (least : ℕ) : Type 0 where
+-- the cap that the search is given for a file of width w and b boards: none where the boards are enough for every slot
+unfoldable pub capOf : ℕ → ℕ → ℕ
+capOf w b = choose (leb w b) 128 b
+
+-- the first makespan that it tries: at least as many slots as the windows leave, and as n jobs take
+unfoldable pub firstLength : ℕ → ℕ → ℕ → ℕ
+firstLength least n cap = max least ((n + (cap - 1)) / cap)
+
+-- and it has no circle and is not too wide; the tables are its needs and its windows; the cap asks what the boards do, and
+-- no list with no more jobs in a slot has fewer slots than `least`
+pub record WindowsRead (bs : List ℕ) (n L cap : ℕ) (offsets tables : List ℕ) (least : ℕ) : Type 0 where
   pub jobs : JobsRead bs n L offsets (giversIn tables) (takersIn tables)
   pub free : T (circleFree (size (jobs .file)) (jobs .file .needs))
   pub narrow : width (size (jobs .file)) (jobs .file .needs) (jobs .file .limit) ≤ 8
   pub released-is : releasedIn tables ≡ fileWindows (size (jobs .file)) (jobs .file .needs) .released
   pub followed-is : followedIn tables ≡ fileWindows (size (jobs .file)) (jobs .file .needs) .followed
-  pub least-is : least ≡ fileWindows (size (jobs .file)) (jobs .file .needs) .least
+  pub cap-is : best (size (jobs .file)) (runsb (size (jobs .file)) (jobs .file .needs) cap) (jobs .file .limit)
+      ≡ best (size (jobs .file)) (runsb (size (jobs .file)) (jobs .file .needs) (mostBoards (jobs .file))) (jobs .file .limit)
+  pub least-pos : 0 < least
+  pub least-low : AtLeast (size (jobs .file)) (Runs (size (jobs .file)) (jobs .file .needs) cap) least

@@ -3,8 +3,9 @@ use mathlib.Core.Path.{_≡_}
 use mathlib.Core.List.{List}
 use Prim.Native.Nat.{ℕ, _+_, _-_, _≤_}
 use Rattle.rules.specs.Needs.{NeedsIn, Circle}
-use Rattle.rules.specs.Program.{keptb}
+use Rattle.rules.specs.JobFile.{mostBoards}
 use Rattle.rules.specs.Preference.{best}
+use Rattle.rules.specs.Boards.{runsb}
 use Rattle.laws.specs.Tests.{T-true}
 use Rattle.laws.specs.Circles.{circle-free}
 use Rattle.search.specs.Shortest.{shortest}
@@ -25,7 +26,7 @@ module _ (bs : List ℕ) (n L : ℕ) (o g t : List ℕ) (j : JobsRead bs n L o g
   pub file-needs : NeedsIn (size (j .file)) (j .file .needs)
   file-needs a b m = let w = j .keeps .needs-in a b m in (w .0, w .1)
 
-module _ (bs : List ℕ) (n L : ℕ) (o sets : List ℕ) (least : ℕ) (w : WindowsRead bs n L o sets least) where
+module _ (bs : List ℕ) (n L cap : ℕ) (o sets : List ℕ) (least : ℕ) (w : WindowsRead bs n L cap o sets least) where
   abbrev g : List ℕ
   g = giversIn sets
 
@@ -42,8 +43,9 @@ module _ (bs : List ℕ) (n L : ℕ) (o sets : List ℕ) (least : ℕ) (w : Wind
       (file-well-formed (size (w .jobs .file)) (w .jobs .file .needs) (w .jobs .file .limit) (jobs-few bs n L o g t (w .jobs)) (limit-few bs n L o g t (w .jobs)) (file-needs bs n L o g t (w .jobs)) (T-true _ .0 (w .free)) (w .narrow))
 
   -- what it finds
-  pub found-best : shortest (tablesIn sets) (L + 1 - least) least ≡ answerOf (best (size (w .jobs .file)) (keptb (w .jobs .file .needs)) (w .jobs .file .limit))
+  pub found-best : shortest (tablesIn cap sets) (L + 1 - least) least
+      ≡ answerOf (best (size (w .jobs .file)) (runsb (size (w .jobs .file)) (w .jobs .file .needs) (mostBoards (w .jobs .file))) (w .jobs .file .limit))
   found-best =
-      rw (w .released-is, w .followed-is, w .least-is, w .jobs .held .limit-is)
+      rw (← (w .cap-is), w .released-is, w .followed-is, w .jobs .held .limit-is)
       (file-is-best (size (w .jobs .file)) (w .jobs .file .needs) (w .jobs .file .limit) (jobs-few bs n L o g t (w .jobs)) (limit-few bs n L o g t (w .jobs)) (file-needs bs n L o g t (w .jobs)) (T-true _ .0 (w .free))
-      g t (w .jobs .held .givers-are) (w .jobs .held .givers-small) (w .jobs .held .takers-are) (w .jobs .keeps .jobs-in .0) (w .jobs .keeps .limit-in .0))
+      cap g t (w .jobs .held .givers-are) (w .jobs .held .givers-small) (w .jobs .held .takers-are) (w .jobs .keeps .limit-in .0) least (w .least-pos) (w .least-low))

@@ -9,10 +9,10 @@ use Rattle.rules.specs.Basics.{at, tabulate}
 use Rattle.rules.specs.Numbers.{centimetres}
 use Rattle.rules.specs.Fields.{Answer, refused, got, after, value}
 use Rattle.rules.specs.Needs.{Gives}
-use Rattle.rules.specs.JobFile.{JobFile, nthJob, nameOk, jobOf, readFile}
-use Rattle.rules.specs.Program.{slots, Kept, Fits, keptb}
+use Rattle.rules.specs.JobFile.{JobFile, nthJob, nameOk, mostBoards, jobOf, readFile}
+use Rattle.rules.specs.Program.{slots, Kept, Fits}
 use Rattle.rules.specs.Preference.{best}
-use Rattle.rules.specs.Boards.{boards}
+use Rattle.rules.specs.Boards.{boards, runsb}
 use Rattle.rules.specs.Table.{Table, encode}
 use Rattle.rules.specs.Answers.{tableOf, tabled, planTable, written}
 use Rattle.laws.specs.Tests.{tests}
@@ -58,49 +58,53 @@ module _ (bs : List ℕ) (n L : ℕ) (o g t : List ℕ) (j : JobsRead bs n L o g
 
 -- ---- what was found
 
-module _ (bs : List ℕ) (n L : ℕ) (o sets : List ℕ) (least : ℕ) (w : WindowsRead bs n L o sets least) where
+module _ (bs : List ℕ) (n L cap : ℕ) (o sets : List ℕ) (least : ℕ) (w : WindowsRead bs n L cap o sets least) where
   abbrev g : List ℕ
   g = giversIn sets
 
   abbrev t : List ℕ
   t = takersIn sets
 
-  search-13 : (x : Option (List ℕ)) → best (size (w .jobs .file)) (keptb (w .jobs .file .needs)) (w .jobs .file .limit) ≡ x → after (readFile bs) planTable ≡ tabled (w .jobs .file) x
+  -- the rules' best list
+  abbrev bestList : Option (List ℕ)
+  bestList = best (size (w .jobs .file)) (runsb (size (w .jobs .file)) (w .jobs .file .needs) (mostBoards (w .jobs .file))) (w .jobs .file .limit)
+
+  search-13 : (x : Option (List ℕ)) → bestList ≡ x → after (readFile bs) planTable ≡ tabled (w .jobs .file) x
   unfolding after
   search-13 x e =
       ap (λ (r : Answer JobFile). after r planTable) (w .jobs .read)
-      ∙ asked-13 (w .jobs .file) (w .jobs .keeps) (no-circle bs n L o sets least w) (w .narrow) ∙ ap (tabled (w .jobs .file)) e
+      ∙ asked-13 (w .jobs .file) (w .jobs .keeps) (no-circle bs n L cap o sets least w) (w .narrow) ∙ ap (tabled (w .jobs .file)) e
 
-  module _ (found : Found) (is : found ≡ answerOf (best (size (w .jobs .file)) (keptb (w .jobs .file .needs)) (w .jobs .file .limit))) where
+  module _ (found : Found) (is : found ≡ answerOf (bestList)) where
     -- nothing was found: 13
     pub none-found : (table : List ℕ) → found .slots ≡ 0 → Answers bs (made.Refused 13) table table
     unfolding answerOf tabled
-    none-found table z = go (best (size (w .jobs .file)) (keptb (w .jobs .file .needs)) (w .jobs .file .limit)) refl
+    none-found table z = go (bestList) refl
       where
-        go : (x : Option (List ℕ)) → best (size (w .jobs .file)) (keptb (w .jobs .file .needs)) (w .jobs .file .limit) ≡ x → Answers bs (made.Refused 13) table table
+        go : (x : Option (List ℕ)) → bestList ≡ x → Answers bs (made.Refused 13) table table
         go none e = answers-refused bs 13 table (search-13 none e)
         go (some u) e = absurd (omega (arith, slots-pos u, z, ap (λ (y : Found). y .slots) (is ∙ ap answerOf e)))
 
     -- the best start list
     pub record Chosen : Type 0 where
       pub list : List ℕ
-      pub is-best : best (size (w .jobs .file)) (keptb (w .jobs .file .needs)) (w .jobs .file .limit) ≡ some list
+      pub is-best : bestList ≡ some list
       pub slots-is : found .slots ≡ slots list
       pub starts-is : found .starts ≡ byPlace list
-      pub short : Shortest (size (w .jobs .file)) (w .jobs .file .needs) (w .jobs .file .limit) list
+      pub short : Shortest (size (w .jobs .file)) (w .jobs .file .needs) (mostBoards (w .jobs .file)) (w .jobs .file .limit) list
 
     pub chosen : (found .slots ≡ 0 → ⊥) → Chosen
     unfolding answerOf
-    chosen z = go (best (size (w .jobs .file)) (keptb (w .jobs .file .needs)) (w .jobs .file .limit)) refl
+    chosen z = go (bestList) refl
       where
-        go : (x : Option (List ℕ)) → best (size (w .jobs .file)) (keptb (w .jobs .file .needs)) (w .jobs .file .limit) ≡ x → Chosen
+        go : (x : Option (List ℕ)) → bestList ≡ x → Chosen
         go none e = absurd (z (ap (λ (y : Found). y .slots) (is ∙ ap answerOf e)))
         go (some u) e = record {
           list = u;
           is-best = e;
           slots-is = ap (λ (y : Found). y .slots) (is ∙ ap answerOf e);
           starts-is = ap (λ (y : Found). y .starts) (is ∙ ap answerOf e);
-          short = best-found (size (w .jobs .file)) (w .jobs .file .needs) (w .jobs .file .limit) (w .jobs .keeps .distinct) (file-needs bs n L o g t (w .jobs)) (w .jobs .keeps .limit-in .0) u e;
+          short = best-found (size (w .jobs .file)) (w .jobs .file .needs) (mostBoards (w .jobs .file)) (w .jobs .file .limit) (w .jobs .keeps .distinct) (file-needs bs n L o g t (w .jobs)) (w .jobs .keeps .limit-in .0) u e;
         }
 
     module _ (c : Chosen) where
@@ -135,7 +139,7 @@ module _ (bs : List ℕ) (n L : ℕ) (o sets : List ℕ) (least : ℕ) (w : Wind
 
       pub count-few : placed sets (found .starts) n (found .slots) .count ≤ 8
       unfolding rulesPlaced
-      count-few = rw placed-is (few-boards (w .jobs .file) (w .jobs .keeps) (no-circle bs n L o sets least w) (w .narrow) (c .list) (c .short))
+      count-few = rw placed-is (omega (arith, few-boards (w .jobs .file) (w .jobs .keeps) (no-circle bs n L cap o sets least w) (w .narrow) (c .list) (c .short), w .jobs .keeps .boards-in .1))
 
       -- the table that is written is that of the rules
       table-is : tableWith bs o (found .starts) (placed sets (found .starts) n (found .slots) .boards) n (found .slots) (placed sets (found .starts) n (found .slots) .count) ≡ tableOf (w .jobs .file) (c .list)

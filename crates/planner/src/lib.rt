@@ -1,11 +1,11 @@
-// The planner: questions 1 to 13 of document 01, and the table.
+// The planner: questions 1 to 13 and 21 of documents 01 and 02, and the table.
 //
 // Jobs are counted from 0 here. In sets, and in the arrays by place, job i stands at place 63 - i (crate jobset).
 ghost use mathlib.Core.Path.{_≡_};
-ghost use Prim.Native.Nat.{_≤_};
+ghost use Prim.Native.Nat.{_≤_, _<_};
 ghost use lib.ListN.{length};
 ghost use Rattle.rules.specs.Answers.{plan};
-ghost use Rattle.planner.specs.Planner.{outcomeOf, Answers, WindowsRead};
+ghost use Rattle.planner.specs.Planner.{outcomeOf, Answers, capOf, firstLength, WindowsRead};
 
 // A table of so many bytes, or the number of the question that said no.
 pub enum Planned {
@@ -20,14 +20,15 @@ fn plan_windows(
     tables: &[u64; 260],
     jobs: usize,
     limit: usize,
+    cap: u32,
     least: usize,
     work: &mut [u8],
     table: &mut [u8],
 ) -> Planned
-    requires { ⌜ (52488 ≤ length (now work)) × (1222 ≤ length (now table)) × WindowsRead (now file) jobs limit (now offsets) (now tables) least ⌝ }
+    requires { ⌜ (52488 ≤ length (now work)) × (1222 ≤ length (now table)) × WindowsRead (now file) jobs limit cap (now offsets) (now tables) least ⌝ }
     ensures { λ r. ⌜ Answers (now (file .entry)) r (now (table .entry)) (now (table .exit)) ⌝ }
 {
-    let found = search::search(tables, least, limit, work);
+    let found = search::search(tables, least, limit, work, cap);
     let slots = found.slots;
     if slots == 0 {
         return Planned::Refused(13);
@@ -46,6 +47,29 @@ fn plan_windows(
         table,
     );
     Planned::Table(size)
+}
+
+// The most jobs that the search gives a slot: no cap where the boards are as many as the file is wide.
+fn cap_of(width: usize, boards: u8) -> u32
+    ensures { λ r. ⌜ r ≡ capOf width boards ⌝ }
+{
+    if width <= boards as usize {
+        return explore::NO_CAP;
+    }
+    boards as u32
+}
+
+// The first makespan that the search tries: what releases and tails leave, or as many slots as so many jobs take at `cap` a slot.
+fn first_length(least: usize, jobs: usize, cap: u32) -> usize
+    requires { ⌜ (0 < cap) × (jobs ≤ 64) ⌝ }
+    ensures { λ r. ⌜ r ≡ firstLength least jobs cap ⌝ }
+{
+    let most = cap as usize;
+    let slots = (jobs + (most - 1)) / most;
+    if least < slots {
+        return slots;
+    }
+    least
 }
 
 // Questions 2 to 12, with full buffers; then the rest. The tables of the file are parts of one array (crate explore says which).
@@ -70,11 +94,13 @@ fn plan_file(file: &[u8], work: &mut [u8], table: &mut [u8]) -> Planned
     windows::lower_jobs(&release, f.jobs, &mut tables[128..194]);
     windows::higher_jobs(&tail, f.jobs, &mut tables[194..260]);
     let sets = &tables[..];
-    if 8 < windows::width(&sets[128..194], &sets[194..260], f.limit) {
+    let width = windows::width(&sets[128..194], &sets[194..260], f.limit);
+    if 8 < width {
         return Planned::Refused(12);
     }
-    let least = windows::least(&release, &tail, f.jobs);
-    plan_windows(file, &offsets, &tables, f.jobs, f.limit, least, work, table)
+    let cap = cap_of(width, jobfile::most_boards(f.sockets));
+    let least = first_length(windows::least(&release, &tail, f.jobs), f.jobs, cap);
+    plan_windows(file, &offsets, &tables, f.jobs, f.limit, cap, least, work, table)
 }
 
 // The planner. After every answer but refusal 1 the first 65,536 bytes of the working buffer are zero; the table buffer is changed only

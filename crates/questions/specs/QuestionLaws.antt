@@ -48,27 +48,27 @@ module _ (job row : List ℕ) where
 
 -- ---- 16
 
-module _ (L s b : ℕ) (t bs : List ℕ) (m : ℕ) (m-is : m ≡ largest t) where
-  pub wrong-slots : (s ≡ m + 1 → ⊥) → false ≡ sizedIn L s b t bs
+module _ (L most s b : ℕ) (t bs : List ℕ) (m : ℕ) (m-is : m ≡ largest t) where
+  pub wrong-slots : (s ≡ m + 1 → ⊥) → false ≡ sizedIn L most s b t bs
   unfolding sizedIn slots
   wrong-slots n = simp (ne-eqb s (suc (largest t)) (λ e. n (omega arith)))
 
   module _ (right : s ≡ m + 1) where
-    pub past-limit : L < s → false ≡ sizedIn L s b t bs
+    pub past-limit : L < s → false ≡ sizedIn L most s b t bs
     unfolding sizedIn slots
     past-limit h = simp (eq-eqb s (suc (largest t)) (omega arith), lt-leb s L h)
 
     module _ (within : s ≤ L) where
-      pub zero-board : all (leb 1) bs ≡ false → false ≡ sizedIn L s b t bs
+      pub zero-board : all (leb 1) bs ≡ false → false ≡ sizedIn L most s b t bs
       unfolding sizedIn slots
       zero-board e = simp (eq-eqb s (suc (largest t)) (omega arith), le-leb s L within, e)
 
       module _ (low : all (leb 1) bs ≡ true) (k : ℕ) (k-is : k ≡ largest bs) where
-        pub wrong-boards : (b ≡ k → ⊥) → false ≡ sizedIn L s b t bs
+        pub wrong-boards : (b ≡ k → ⊥) → false ≡ sizedIn L most s b t bs
         unfolding sizedIn slots
         wrong-boards n = simp (eq-eqb s (suc (largest t)) (omega arith), le-leb s L within, low, ne-eqb b (largest bs) (λ e. n (omega arith)))
 
-        pub boards-by : b ≡ k → leb b 8 ≡ sizedIn L s b t bs
+        pub boards-by : b ≡ k → leb b most ≡ sizedIn L most s b t bs
         unfolding sizedIn slots
         boards-by e = simp (eq-eqb s (suc (largest t)) (omega arith), le-leb s L within, low, eq-eqb b (largest bs) (omega arith))
 

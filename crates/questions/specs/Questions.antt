@@ -4,7 +4,6 @@ use mathlib.Core.List.{List}
 use Prim.Native.Nat.{ℕ, _+_, _-_, _≤_}
 use lib.ListN.{length}
 use lib.Dec.{T, leb, eqb}
-use Rattle.rules.specs.Sizes.{maxBoards}
 use Rattle.rules.specs.Basics.{choose, at, imp, all, any, range, largest}
 use Rattle.rules.specs.Numbers.{eqℤ, centimetres}
 use Rattle.rules.specs.Fields.{value, whole}
@@ -32,8 +31,8 @@ labelledIn file jobs table rows n = all (λ i. labelledBy (value file (at jobs i
 
 -- ---- 16
 
-unfoldable pub sizedIn : ℕ → ℕ → ℕ → List ℕ → List ℕ → Bool
-sizedIn L s b t bs = eqb s (slots t) && (leb s L && (all (leb 1) bs && (eqb b (largest bs) && leb b maxBoards)))
+unfoldable pub sizedIn : ℕ → ℕ → ℕ → ℕ → List ℕ → List ℕ → Bool
+sizedIn L most s b t bs = eqb s (slots t) && (leb s L && (all (leb 1) bs && (eqb b (largest bs) && leb b most)))
 
 -- ---- 17
 

@@ -90,8 +90,15 @@ fn all_positive(list: &[u8]) -> bool
 }
 
 // Question 16: are slots and boards those of the rows, and within their bounds?
-pub fn sized(limit: usize, slots: usize, boards: usize, start: &[u8], board: &[u8]) -> bool
-    ensures { λ r. ⌜ r ≡ sizedIn limit slots boards (now (start .entry)) (now (board .entry)) ⌝ }
+pub fn sized(
+    limit: usize,
+    most: usize,
+    slots: usize,
+    boards: usize,
+    start: &[u8],
+    board: &[u8],
+) -> bool
+    ensures { λ r. ⌜ r ≡ sizedIn limit most slots boards (now (start .entry)) (now (board .entry)) ⌝ }
 {
     if slots != largest_of(start) + 1 {
         return false;
@@ -105,7 +112,7 @@ pub fn sized(limit: usize, slots: usize, boards: usize, start: &[u8], board: &[u
     if boards != largest_of(board) {
         return false;
     }
-    boards <= 8
+    boards <= most
 }
 
 // ---- 17

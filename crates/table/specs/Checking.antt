@@ -9,7 +9,7 @@ use lib.Dec.{T, leb, eqb}
 use Rattle.rules.specs.Basics.{at, all, range}
 use Rattle.rules.specs.Fields.{Answer, refused, got, ask, after, numberOf, value}
 use Rattle.rules.specs.Needs.{Need, NeedsIn, circleFree}
-use Rattle.rules.specs.JobFile.{JobFile, nthJob, nameOk, jobOf, readFile}
+use Rattle.rules.specs.JobFile.{JobFile, nthJob, nameOk, mostBoards, jobOf, readFile}
 use Rattle.rules.specs.Table.{nthRow, starts, boardsOf, rowOf, decode, labelled, needsKept, rowStart}
 use Rattle.rules.specs.Answers.{check}
 use Rattle.laws.specs.Tests.{tests, T-and, T-leb, T-all, bool-ext}
@@ -155,19 +155,21 @@ module _ (file table : List ℕ) where
               -- ---- questions 16 and 17
 
               module _ (right : labelledIn file offsets table (r .offset) (F .jobs) ≡ true)
-                  (q : ℕ) (q-is : q ≡ cellNumber (F .limit) (r .slots) (r .boards) (take (r .count) (r .start)) (take (r .count) (r .board))) where
+                  (q : ℕ) (q-is : q ≡ cellNumber (F .limit) (F .sockets) (r .slots) (r .boards) (take (r .count) (r .start)) (take (r .count) (r .board))) where
                 sixteen : check file table ≡ q16 f (tableOf table (r .count))
                 unfolding ask
                 sixteen = questions ∙ rw (sym labels ∙ right) refl
 
                 pub bad-cells : (q ≡ 0 → ⊥) → verdict.Refused q ≡ verdictOf (check file table)
-                bad-cells n = refused-by q (sixteen ∙ rw (n-is, ← (held .limit-is)) (cells-no table r row-held (F .limit) q (q18 f (tableOf table (r .count))) q-is n))
+                unfolding mostBoards
+                bad-cells n = refused-by q (sixteen ∙ rw (n-is, ← (held .limit-is), ← (held .sockets-is)) (cells-no table r row-held (F .limit) (F .sockets) q (q18 f (tableOf table (r .count))) q-is n))
 
                 -- ---- question 18
 
                 module _ (z : q ≡ 0) where
                   eighteen : check file table ≡ q18 f (tableOf table (r .count))
-                  eighteen = sixteen ∙ rw (n-is, ← (held .limit-is)) (cells-yes table r row-held (F .limit) q (q18 f (tableOf table (r .count))) q-is z)
+                  unfolding mostBoards
+                  eighteen = sixteen ∙ rw (n-is, ← (held .limit-is), ← (held .sockets-is)) (cells-yes table r row-held (F .limit) (F .sockets) q (q18 f (tableOf table (r .count))) q-is z)
 
                   kept : setsKept givers (take (F .jobs) (r .start)) (take (F .jobs) (r .board)) ≡ needsKept (f .needs) (starts (tableOf table (r .count))) (boardsOf (tableOf table (r .count)))
                   kept =

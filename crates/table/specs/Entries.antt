@@ -4,6 +4,7 @@ use mathlib.Core.List.{List, [], _∷_}
 use Prim.Native.Nat.{ℕ, zero, suc}
 use lib.ListN.{length}
 use lib.Dec.{eqb}
+use Rattle.rules.specs.Sizes.{maxBoards}
 use Rattle.rules.specs.Basics.{choose}
 use Rattle.rules.specs.Fields.{Answer, refused, got, part}
 use Rattle.rules.specs.Table.{Table, apartb}
@@ -16,9 +17,9 @@ use Rattle.table.specs.declared.places.Place.{Place}
 use Rattle.table.specs.declared.places.Place.the-variants as place
 use Rattle.questions.specs.Questions.{sizedIn}
 
--- questions 16 and 17 of starts t and boards b: the number of the first that says no, or 0
-unfoldable pub cellNumber : ℕ → ℕ → ℕ → List ℕ → List ℕ → ℕ
-cellNumber L slots boards t b = choose (sizedIn L slots boards t b) (choose (apartb (length t) t b) 0 17) 16
+-- questions 16 and 17 of starts t and boards b, for a job file with these sockets: the number of the first that says no, or 0
+unfoldable pub cellNumber : ℕ → ℕ → ℕ → ℕ → List ℕ → List ℕ → ℕ
+cellNumber L sockets slots boards t b = choose (sizedIn L (choose (eqb sockets 0) maxBoards sockets) slots boards t b) (choose (apartb (length t) t b) 0 17) 16
 
 -- the number, from i up, of the first row with slot s and board b in its start and board; 0 where there is none
 unfoldable pub jobIn : ℕ → List ℕ → List ℕ → ℕ → ℕ → ℕ

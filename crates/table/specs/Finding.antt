@@ -6,8 +6,8 @@ use Prim.Native.Nat.{ℕ, zero, suc, _+_, _-_, _≤_, _<_}
 use native.Mathlib.Omega.{arith}
 use lib.ListN.{length, take}
 use lib.Dec.{T, leb}
-use Rattle.rules.specs.Sizes.{maxJobs, maxLimit}
-use Rattle.rules.specs.Basics.{at}
+use Rattle.rules.specs.Sizes.{maxBoards, maxJobs, maxLimit}
+use Rattle.rules.specs.Basics.{choose, at}
 use Rattle.rules.specs.Fields.{Answer, refused, got, ask, after, fieldEnd, value}
 use Rattle.rules.specs.Table.{starts, boardsOf, sized, apartb, rowStart}
 use Rattle.rules.specs.Answers.{jobAt, lookupTable, lookup, nameSpan}
@@ -47,21 +47,22 @@ module _ (bs : List ℕ) (s b : ℕ) where
       unfolding lookupTable after
       no-rows h = refused-by 14 (rw (held .decoded (λ n. leb 1 n && leb n maxJobs), ask-no (leb 1 (r .count) && leb (r .count) maxJobs) 14 (got (tableOf bs (r .count))) (λ t. let w = simp tests at t in omega arith)) refl)
 
-      module _ (some : 1 ≤ r .count) (q : ℕ) (q-is : q ≡ cellNumber 64 (r .slots) (r .boards) (take (r .count) (r .start)) (take (r .count) (r .board))) where
-        asked : lookupTable bs ≡ ask (sized maxLimit (tableOf bs (r .count))) 16 (ask (apartb (r .count) (starts (tableOf bs (r .count))) (boardsOf (tableOf bs (r .count)))) 17 (got (tableOf bs (r .count))))
+      module _ (some : 1 ≤ r .count) (q : ℕ) (q-is : q ≡ cellNumber 64 0 (r .slots) (r .boards) (take (r .count) (r .start)) (take (r .count) (r .board))) where
+        asked : lookupTable bs ≡ ask (sized maxLimit maxBoards (tableOf bs (r .count))) 16 (ask (apartb (r .count) (starts (tableOf bs (r .count))) (boardsOf (tableOf bs (r .count)))) 17 (got (tableOf bs (r .count))))
         unfolding lookupTable after
         asked = rw (held .decoded (λ n. leb 1 n && leb n maxJobs), ask-yes (leb 1 (r .count) && leb (r .count) maxJobs) 14 (got (tableOf bs (r .count))) (simp tests (some, held .count-in)), rows-length bs (r .count)) refl
 
         pub bad-cells : (q ≡ 0 → ⊥) → place.Refused q ≡ placeOf bs (lookup bs s b)
-        bad-cells n = refused-by q (asked ∙ cells-no bs r held 64 q (got (tableOf bs (r .count))) q-is n)
+        unfolding choose
+        bad-cells n = refused-by q (asked ∙ cells-no bs r held 64 0 q (got (tableOf bs (r .count))) q-is n)
 
         module _ (z : q ≡ 0) (j : ℕ) (j-is : j ≡ jobIn 1 (take (r .count) (r .start)) (take (r .count) (r .board)) s b) where
           job-is : jobAt 1 (tableOf bs (r .count) .rows) s b ≡ j
           job-is = job-at 1 (tableOf bs (r .count) .rows) s b ∙ sym (j-is ∙ rw (held .starts-are, held .boards-are) refl)
 
           answered : lookup bs s b ≡ got j
-          unfolding lookup after
-          answered = rw (asked ∙ cells-yes bs r held 64 q (got (tableOf bs (r .count))) q-is z) (ap got job-is)
+          unfolding lookup after choose
+          answered = rw (asked ∙ cells-yes bs r held 64 0 q (got (tableOf bs (r .count))) q-is z) (ap got job-is)
 
           pub idle : j ≡ 0 → place.Idle ≡ placeOf bs (lookup bs s b)
           unfolding placeOf

@@ -7,7 +7,7 @@ use native.Mathlib.Omega.{arith}
 use lib.ListN.{length, take, drop}
 use lib.Seq.{drop-drop, take-nil}
 use lib.Dec.{T, leb}
-use Rattle.rules.specs.Sizes.{maxJobs, maxLimit}
+use Rattle.rules.specs.Sizes.{maxBoards, maxJobs, maxLimit}
 use Rattle.rules.specs.Fields.{Answer, refused, got, after, part, fieldEnd, value}
 use Rattle.rules.specs.Table.{Row, Table, nthRow, starts, boardsOf, rowOf, decode, sized, apartb, rowStart}
 use Rattle.rules.specs.Answers.{jobAt, lookupTable, lookup, nameSpan, nameAt}
@@ -54,7 +54,7 @@ lookup-decodes : (bs : List ℕ) (t : Table) → lookupTable bs ≡ got t → de
 unfolding lookupTable
 lookup-decodes bs t e =
     let w = after-got (decode (λ n. leb 1 n && leb n maxJobs) bs) _ t e in
-    let a = ask-got (sized maxLimit (w .0)) 16 _ t (w .2) in
+    let a = ask-got (sized maxLimit maxBoards (w .0)) 16 _ t (w .2) in
     let b = ask-got (apartb (length (w .0 .rows)) (starts (w .0)) (boardsOf (w .0))) 17 (got (w .0)) t (a .1) in
     let q : w .0 ≡ t = cc (b .1) in
     w .1 ∙ ap got q

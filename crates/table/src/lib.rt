@@ -1,4 +1,4 @@
-// The slot table: the check (questions 2 to 11 of the job file and 14 to 18 of the table), and the lookup and the name (14, 16 and 17 of the table).
+// The slot table: the check (questions 2 to 11 and 21 of the job file and 14 to 18 of the table), and the lookup and the name (14, 16 and 17 of the table).
 mod places;
 
 pub use places::Found;
@@ -47,7 +47,7 @@ pub fn check(file: &[u8], table: &[u8]) -> Verdict
     if !labelled(file, &offsets, table, &rows, jobs) {
         return Verdict::Refused(15);
     }
-    let refusal = cells(t, f.limit);
+    let refusal = cells(t, f.limit, f.sockets);
     if refusal != 0 {
         return Verdict::Refused(refusal);
     }

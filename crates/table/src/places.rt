@@ -2,6 +2,7 @@
 use fields::index;
 use fields::value_at;
 use fields::wide;
+use jobfile::most_boards;
 use questions::apart;
 use questions::sized;
 use rows::Rows;
@@ -32,15 +33,17 @@ pub enum Place {
     Refused(u8),
 }
 
-// Questions 16 and 17 of the rows that were read: the number of the one that says no, or 0.
-pub fn cells(t: Rows, limit: usize) -> u8
+// Questions 16 and 17 of the rows that were read, for a job file with these sockets: the number of the one that says no, or 0.
+// Without a job file there are none, and the boards are compared with eight.
+pub fn cells(t: Rows, limit: usize, sockets: u8) -> u8
     requires { ⌜ (t .count ≤ length (t .start)) × (t .count ≤ length (t .board)) ⌝ }
-    ensures { λ r. ⌜ r ≡ cellNumber limit (t .slots) (t .boards) (take (t .count) (t .start)) (take (t .count) (t .board)) ⌝ }
+    ensures { λ r. ⌜ r ≡ cellNumber limit sockets (t .slots) (t .boards) (take (t .count) (t .start)) (take (t .count) (t .board)) ⌝ }
 {
     let n = t.count;
     let start = t.start;
     let board = t.board;
-    if !sized(limit, t.slots, t.boards, &start[..n], &board[..n]) {
+    let most = wide(most_boards(sockets));
+    if !sized(limit, most, t.slots, t.boards, &start[..n], &board[..n]) {
         return 16;
     }
     if !apart(&start[..n], &board[..n]) {
@@ -87,7 +90,7 @@ pub fn find(table: &[u8], slot: usize, board: usize) -> Place
     if n < 1 {
         return Place::Refused(14);
     }
-    let number = cells(t, 64);
+    let number = cells(t, 64, 0);
     if number != 0 {
         return Place::Refused(number);
     }

@@ -5,7 +5,7 @@ use gate_tests::generate::drafts::Draft;
 use gate_tests::generate::random::Random;
 use gate_tests::generate::{damage, tables};
 use gate_tests::reference::entries::{self, WORK_BYTES};
-use gate_tests::reference::reading::read;
+use gate_tests::reference::reading::{read, JobFile};
 use gate_tests::reference::table::LONGEST_TABLE;
 
 const COUNT: u64 = 100;
@@ -30,13 +30,16 @@ fn seed(random: &mut Random, kind: &str) -> Vec<u8> {
         "plan" => [&[random.byte(), random.pick(&[0, 0, 63])], &file[..]].concat(),
         "check" => {
             let length = (file.len() as u16).to_le_bytes();
-            let table = read(&file).ok().and_then(|read| tables::valid(random, &read));
+            let table = read(&file).ok().and_then(|read| {
+                let boards = random.pick(&[read.boards, None]);
+                tables::valid(random, &JobFile { boards, ..read })
+            });
             [&length[..], &file, &table.map_or(Vec::new(), |table| table.bytes())].concat()
         }
         "lookup" => {
             let table = entries::plan(&file, WORK_BYTES, LONGEST_TABLE).unwrap_or_default();
             [&[random.below(4) as u8, random.below(4) as u8], &table[..]].concat()
         }
-        _ => [&[random.pick(&[1, 9]), random.byte()], &random.bytes(3)[..], &file].concat(),
+        _ => [&[random.pick(&[1, 9, 17, 25]), random.byte()], &random.bytes(3)[..], &file].concat(),
     }
 }

@@ -1,16 +1,17 @@
 //! Damage to job files: one field or one byte at a time, for each question on its own, or anywhere.
 
-use super::drafts::{field, job_field, level, name, need_field, Draft};
+use super::drafts::{boards_field, field, job_field, level, name, need_field, Draft};
 use super::random::Random;
 
 /// A file in which one thing that a question asks is wrong, at a place of its own choosing; now and then two.
 pub fn fields(random: &mut Random, draft: &Draft) -> Vec<u8> {
     let mut fields = draft.fields();
     for _ in 0..random.pick(&[1, 1, 1, 2]) {
-        match random.below(4) {
+        match random.below(5) {
             0 => head_fields(random, &mut fields),
             1 => jobs(random, draft, &mut fields),
             2 => needs(random, draft, &mut fields),
+            3 => boards(random, &mut fields),
             _ => order(random, &mut fields),
         }
     }
@@ -78,6 +79,24 @@ fn needs(random: &mut Random, draft: &Draft, fields: &mut Vec<Vec<u8>>) {
     }
 }
 
+/// Most boards: wrong values and lengths, given twice, as the first or second field; and tags around 9.
+fn boards(random: &mut Random, fields: &mut Vec<Vec<u8>>) {
+    let at = anywhere(random, fields);
+    let given = boards_field(random.between(1, 8) as u8);
+    match random.below(6) {
+        0 => fields.insert(at, boards_field(random.pick(&[0, 9, 255]))),
+        1 => fields.insert(at, field(9, random.pick(&[&[][..], &[2, 2]]))),
+        2 => {
+            fields.insert(at, given);
+            let again = random.between(at, fields.len());
+            fields.insert(again, boards_field(random.pick(&[0, 1, 2, 3, 8, 9])));
+        }
+        3 => fields.insert(random.below(2).min(fields.len()), given),
+        4 if fields.len() > 1 => fields[random.below(2)] = given,
+        _ => fields.insert(at, field(random.pick(&[6, 7, 8, 10]), &[2])),
+    }
+}
+
 /// Fields moved, doubled, lost or with another tag.
 fn order(random: &mut Random, fields: &mut Vec<Vec<u8>>) {
     if fields.is_empty() {
@@ -88,7 +107,7 @@ fn order(random: &mut Random, fields: &mut Vec<Vec<u8>>) {
         0 => fields.swap(at, other),
         1 => fields.insert(other, fields[at].clone()),
         2 => drop(fields.remove(at)),
-        3 => fields[at][0] = random.pick(&[0, 1, 2, 3, 4, 5, 6, 9, 16, 17, 255]),
+        3 => fields[at][0] = random.pick(&[0, 1, 2, 3, 4, 5, 6, 7, 8, 9, 10, 16, 17, 255]),
         _ => fields[at][1] = fields[at][1].wrapping_add(random.pick(&[1, 2, 255, 254, 128])),
     }
 }
@@ -103,11 +122,11 @@ pub fn bytes(random: &mut Random, file: &mut Vec<u8>) {
         let at = random.between(0, file.len());
         match random.below(6) {
             0 => file.insert(at, random.byte()),
-            1 => file.insert(at, random.pick(&[0, 1, 2, 3, 4, 5])),
+            1 => file.insert(at, random.pick(&[0, 1, 2, 3, 4, 5, 9])),
             _ if at == file.len() => drop(file.pop()),
             2 => drop(file.remove(at)),
             3 => file[at] ^= 1 << random.below(8),
-            4 => file[at] = random.pick(&[0, 1, 2, 3, 4, 5, 16, 17, 32, 33, 64, 65, 126, 127, 128, 255]),
+            4 => file[at] = random.pick(&[0, 1, 2, 3, 4, 5, 8, 9, 16, 17, 32, 33, 64, 65, 126, 127, 128, 255]),
             _ => file[at] = random.byte(),
         }
     }

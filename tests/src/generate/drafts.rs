@@ -3,12 +3,13 @@
 use super::limits;
 use super::random::Random;
 use super::shapes::Shape;
-use crate::reference::reading::LONGEST_FILE;
+use crate::reference::reading::{LONGEST_FILE, MOST_BOARDS};
 
-/// Limit, jobs and needs of a file. Needs have job numbers from 1.
+/// Limit, most boards, jobs and needs of a file. Needs have job numbers from 1.
 #[derive(Clone, Debug)]
 pub struct Draft {
     pub limit: u8,
+    pub boards: Option<u8>,
     pub jobs: Vec<(i16, Vec<u8>)>,
     pub needs: Vec<(u8, u8)>,
 }
@@ -27,11 +28,15 @@ pub fn need_field(giver: u8, taker: u8) -> Vec<u8> {
     field(4, &[giver, taker])
 }
 
+pub fn boards_field(boards: u8) -> Vec<u8> {
+    field(9, &[boards])
+}
+
 impl Draft {
     /// Jobs named a, b, .. with levels 10, 20, .., for files written by hand.
     pub fn plain(limit: u8, jobs: usize, needs: &[(u8, u8)]) -> Draft {
         let job = |number: usize| (10 * number as i16, vec![b'a' + ((number - 1) % 26) as u8]);
-        Draft { limit, jobs: (1..=jobs).map(job).collect(), needs: needs.to_vec() }
+        Draft { limit, boards: None, jobs: (1..=jobs).map(job).collect(), needs: needs.to_vec() }
     }
 
     /// A chain of needs through all jobs.
@@ -40,27 +45,32 @@ impl Draft {
         Draft::plain(limit, jobs as usize, &needs)
     }
 
-    /// A sound shape of up to this many jobs, with a limit near an edge, and any levels and names.
+    /// A sound shape of up to this many jobs, with limit and most boards near an edge, and any levels and names.
     pub fn sound(random: &mut Random, most: usize) -> Draft {
         let jobs = if random.percent(15) { most } else { random.between(1, most) };
         let tries = random.below(12);
-        let shape = limits::narrow_shape(random, jobs, tries);
-        let limit = limits::near_an_edge(random, &shape);
-        Draft::of_shape(random, &shape, limit)
+        let mut boards = boards(random);
+        let shape = limits::narrow_shape(random, jobs, boards.unwrap_or(MOST_BOARDS), tries);
+        if boards.is_some() && random.percent(60) {
+            boards = limits::few_boards(random, &shape).or(boards);
+        }
+        let limit = limits::near_an_edge(random, &shape, boards.unwrap_or(MOST_BOARDS));
+        Draft::of_shape(random, &shape, limit, boards)
     }
 
     /// A shape with any levels and names.
-    pub fn of_shape(random: &mut Random, shape: &Shape, limit: u8) -> Draft {
+    pub fn of_shape(random: &mut Random, shape: &Shape, limit: u8, boards: Option<u8>) -> Draft {
         let jobs = (0..shape.jobs).map(|_| (level(random), name(random))).collect();
         let needs = shape.needs.iter().map(|&(giver, taker)| (giver as u8 + 1, taker as u8 + 1)).collect();
-        Draft { limit, jobs, needs }
+        Draft { limit, boards, jobs, needs }
     }
 
-    /// The fields: header, limit, jobs, needs.
+    /// The fields: header, limit, jobs, needs, most boards.
     pub fn fields(&self) -> Vec<Vec<u8>> {
         let mut fields = vec![field(1, &[1]), field(2, &[self.limit])];
         fields.extend(self.jobs.iter().map(|(level, name)| job_field(*level, name)));
         fields.extend(self.needs.iter().map(|&(giver, taker)| need_field(giver, taker)));
+        fields.extend(self.boards.map(boards_field));
         fields
     }
 
@@ -68,7 +78,7 @@ impl Draft {
         self.fields().concat()
     }
 
-    /// The same jobs and needs, each need anywhere behind its two jobs, and comments anywhere.
+    /// The same jobs and needs, each need anywhere behind its two jobs, and most boards and comments anywhere.
     pub fn mixed_bytes(&self, random: &mut Random) -> Vec<u8> {
         let mut fields: Vec<Vec<u8>> = self.fields()[..2 + self.jobs.len()].to_vec();
         // job number k stands at place k + 1; a need may stand at any place behind both of its jobs
@@ -76,6 +86,12 @@ impl Draft {
         for &(giver, taker) in &self.needs {
             let place = random.between(giver.max(taker) as usize + 1, fields.len() - 1);
             places[place].push(need_field(giver, taker));
+        }
+        if let Some(boards) = self.boards {
+            let (last, any) = (fields.len() - 1, random.between(1, fields.len() - 1));
+            let place = random.pick(&[1, any, last]);
+            let at = random.between(0, places[place].len());
+            places[place].insert(at, boards_field(boards));
         }
         for place in 1..fields.len() {
             if random.percent(10) {
@@ -92,6 +108,11 @@ impl Draft {
             self.bytes()
         }
     }
+}
+
+/// Most boards, in about half of the files; few boards often.
+pub fn boards(random: &mut Random) -> Option<u8> {
+    random.percent(50).then(|| random.pick(&[1, 1, 2, 2, 2, 3, 3, 3, 4, 4, 5, 6, 7, 8]))
 }
 
 /// A level, often one at which rounding turns or a byte ends.

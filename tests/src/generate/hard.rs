@@ -6,16 +6,16 @@ use super::shapes::Shape;
 use crate::reference::needs::Graph;
 use crate::reference::search;
 
-/// Shapes with this many jobs, each at least as hard as the one before, found in so many steps.
-pub fn shapes(random: &mut Random, jobs: usize, steps: usize) -> Vec<Shape> {
-    let mut found = vec![narrow_shape(random, jobs, 50)];
-    let mut effort = effort_of(&found[0]);
+/// Shapes with this many jobs, each at least as hard for this many boards as the one before, found in so many steps.
+pub fn shapes(random: &mut Random, jobs: usize, most_boards: u8, steps: usize) -> Vec<Shape> {
+    let mut found = vec![narrow_shape(random, jobs, most_boards, 50)];
+    let mut effort = effort_of(&found[0], most_boards);
     for _ in 0..steps {
         let mut changed = found[found.len() - 1].clone();
         for _ in 0..random.between(1, 3) {
             toggle(random, &mut changed);
         }
-        let effort_now = effort_of(&changed);
+        let effort_now = effort_of(&changed, most_boards);
         if effort_now >= effort.max(1) {
             effort = effort_now;
             found.push(changed);
@@ -35,10 +35,10 @@ fn toggle(random: &mut Random, shape: &mut Shape) {
 }
 
 /// 0 for needs that have a circle or are too wide.
-fn effort_of(shape: &Shape) -> usize {
+fn effort_of(shape: &Shape, most_boards: u8) -> usize {
     let graph = Graph::new(shape.jobs, &shape.needs);
-    if graph.has_circle() || too_wide(shape) {
+    if graph.has_circle() || too_wide(shape, most_boards) {
         return 0;
     }
-    search::effort(&graph, widest(&graph))
+    search::effort(&graph, widest(&graph, most_boards), most_boards)
 }

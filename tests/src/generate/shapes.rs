@@ -1,4 +1,4 @@
-//! Shapes of needs without a circle. Jobs are counted from 0, and at first each giver stands before its taker.
+//! Shapes of needs without a circle. Jobs are counted from 0, and numbered anew at the end.
 
 use super::random::Random;
 
@@ -10,7 +10,7 @@ pub struct Shape {
 
 /// A shape of any kind with this many jobs, its jobs numbered in any order.
 pub fn any(random: &mut Random, jobs: usize) -> Shape {
-    let needs = match random.below(15) {
+    let needs = match random.below(20) {
         0 => chain(jobs),
         1 => parallel_chains(random, jobs),
         2 | 3 => layers(random, jobs),
@@ -22,6 +22,8 @@ pub fn any(random: &mut Random, jobs: usize) -> Shape {
         10 => chain_with_helpers(random, jobs),
         11 => grid(random, jobs),
         12 | 13 => woven(random, jobs),
+        14 | 15 => with_loose_jobs(random, jobs),
+        16..=18 => crowded_chain(random, jobs),
         _ => sparse(random, jobs),
     };
     renumbered(random, Shape { jobs, needs })
@@ -150,6 +152,35 @@ fn chain_with_helpers(random: &mut Random, jobs: usize) -> Vec<(usize, usize)> {
         }
         if kind > 2 && at + 2 < length {
             needs.push((helper, random.between(at + 2, length.min(at + 6) - 1)));
+        }
+    }
+    needs
+}
+
+/// A narrow shape, and a few jobs without a need: many jobs may run in one slot, and later as well.
+fn with_loose_jobs(random: &mut Random, jobs: usize) -> Vec<(usize, usize)> {
+    let tied = jobs - random.below(jobs.min(8));
+    match random.below(4) {
+        0 => chain(tied),
+        1 => fork_join(random, tied),
+        2 => out_tree(random, tied),
+        _ => mirrored(tied, out_tree(random, tied)),
+    }
+}
+
+/// A chain, and beside it one or two times as many jobs, each between two jobs of the chain that are a few slots apart.
+fn crowded_chain(random: &mut Random, jobs: usize) -> Vec<(usize, usize)> {
+    let length = jobs.div_ceil(random.between(2, 3));
+    let apart = random.between(2, 5);
+    let mut needs = chain(length);
+    for beside in length..jobs {
+        let after = random.below(length);
+        let before = after + random.between(2, apart);
+        if random.percent(80) {
+            needs.push((after, beside));
+        }
+        if before < length {
+            needs.push((beside, before));
         }
     }
     needs

@@ -11,7 +11,7 @@ use crate::reference::table::Table;
 pub fn valid(random: &mut Random, file: &JobFile) -> Option<Table> {
     let graph = Graph::new(file.jobs.len(), &file.needs);
     let delay = random.pick(&[0, 0, 10, 30, 60]);
-    let most_boards = random.pick(&[1, 2, 3, 8, 8]);
+    let most_boards = random.pick(&[1, 2, 3, 8, 8]).min(file.most_boards());
     let (mut starts, mut boards) = (vec![usize::MAX; graph.jobs()], vec![0; graph.jobs()]);
     for slot in 0..file.limit as usize {
         let mut free: Vec<u8> = (1..=most_boards).collect();
@@ -105,7 +105,7 @@ fn wrong_counts(random: &mut Random, file: &JobFile, table: &mut Table) {
             table.recount();
         }
         4 => {
-            table.rows[row].board = random.pick(&[8, 9, 255]);
+            table.rows[row].board = random.pick(&[8, 9, 255, file.most_boards(), file.most_boards() + 1]);
             table.recount();
         }
         5 => {
@@ -143,14 +143,14 @@ fn broken_need(random: &mut Random, file: &JobFile, table: &mut Table) {
             let others = file.needs.iter().filter(|need| need.0 == giver);
             for (at, need) in others.enumerate() {
                 table.rows[need.1].start = start.saturating_add(1);
-                table.rows[need.1].board = (board as usize + at - 1) as u8 % 8 + 1;
+                table.rows[need.1].board = (board as usize + at - 1) as u8 % file.most_boards() + 1;
             }
         }
         1 => table.rows[taker].start = start,
         2 => table.rows[taker].start = start.saturating_sub(1),
         kind => {
             table.rows[taker].start = start.saturating_add(1);
-            table.rows[taker].board = if kind == 3 { board } else { board % 8 + 1 };
+            table.rows[taker].board = if kind == 3 { board } else { board % file.most_boards() + 1 };
         }
     }
     table.recount();

@@ -2,25 +2,24 @@
 
 use super::boards::place;
 use super::needs::Graph;
-use super::reading::{read, JobFile, MOST_JOBS};
+use super::reading::{read, JobFile, MOST_BOARDS, MOST_JOBS};
 use super::search;
 use super::table::{centimetres, Row, Table, LONGEST_TABLE};
 use std::ops::Range;
 
 pub const WORK_BYTES: usize = 65_536;
-pub const MOST_BOARDS: usize = 8;
 
-/// The table's bytes, for buffers of these lengths: questions 1 to 13.
+/// The table's bytes, for buffers of these lengths: questions 1 to 13, and 21.
 pub fn plan(file: &[u8], work_len: usize, table_len: usize) -> Result<Vec<u8>, u8> {
     if work_len < WORK_BYTES || table_len < LONGEST_TABLE {
         return Err(1);
     }
     let file = read(file)?;
     let graph = sound_graph(&file)?;
-    if graph.width(file.limit as i32) > MOST_BOARDS {
+    if graph.width(file.limit as i32) > MOST_BOARDS as usize {
         return Err(12);
     }
-    let starts = search::best(&graph, file.limit as i32).ok_or(13)?;
+    let starts = search::best(&graph, file.limit as i32, file.most_boards()).ok_or(13)?;
     Ok(table_of(&file, &starts, &place(&graph, &starts)).bytes())
 }
 
@@ -47,7 +46,7 @@ pub fn table_of(file: &JobFile, starts: &[usize], boards: &[u8]) -> Table {
     table
 }
 
-/// Whether a table passes: questions 2 to 11 and 14 to 18.
+/// Whether a table passes: questions 2 to 11, 14 to 18, and 21.
 pub fn check(file: &[u8], table: &[u8]) -> Result<(), u8> {
     let file = read(file)?;
     sound_graph(&file)?;
@@ -56,7 +55,7 @@ pub fn check(file: &[u8], table: &[u8]) -> Result<(), u8> {
     if !file.jobs.iter().zip(&table.rows).all(same) {
         return Err(15);
     }
-    if !table.counts_are_right(file.limit) {
+    if !table.counts_are_right(file.limit, file.most_boards()) {
         return Err(16);
     }
     if !table.places_differ() {
@@ -76,7 +75,7 @@ pub fn check(file: &[u8], table: &[u8]) -> Result<(), u8> {
 /// A table that the lookup accepts: questions 14, 16 and 17.
 fn usable(table: &[u8]) -> Result<Table, u8> {
     let table = Table::read(table).filter(|table| (1..=MOST_JOBS).contains(&table.rows.len())).ok_or(14)?;
-    if !table.counts_are_right(64) {
+    if !table.counts_are_right(64, MOST_BOARDS) {
         return Err(16);
     }
     if !table.places_differ() {

@@ -31,6 +31,11 @@ pub fn satisfies_p(jobs: usize, needs: &[(usize, usize)], starts: &[usize], slot
     })
 }
 
+/// How many jobs run in the fullest slot.
+pub fn boards(starts: &[usize]) -> usize {
+    (0..slots(starts)).map(|slot| starts.iter().filter(|&&start| start == slot).count()).max().unwrap_or(0)
+}
+
 pub fn slots(starts: &[usize]) -> usize {
     starts.iter().max().map_or(0, |last| last + 1)
 }
@@ -50,12 +55,13 @@ pub fn preferred(one: &[usize], other: &[usize]) -> bool {
     false
 }
 
-/// The shortest and then preferred of all start lists within the limit.
-pub fn best_of_all(graph: &Graph, limit: usize) -> Option<Vec<usize>> {
+/// The shortest and then preferred of all start lists within the limit that have no more jobs in any slot than there are
+/// boards.
+pub fn best_of_all(graph: &Graph, limit: usize, most_boards: u8) -> Option<Vec<usize>> {
     let mut best: Option<Vec<usize>> = None;
     let mut starts = vec![0; graph.jobs()];
     loop {
-        if keeps_rules(graph, &starts) {
+        if keeps_rules(graph, &starts) && boards(&starts) <= most_boards as usize {
             let better = match &best {
                 None => true,
                 Some(best) if slots(&starts) != slots(best) => slots(&starts) < slots(best),

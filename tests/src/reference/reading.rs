@@ -1,4 +1,4 @@
-//! Reading a job file: questions 2 to 10.
+//! Reading a job file: questions 2 to 10, and 21.
 
 /// A job as the file has it.
 #[derive(Clone, Debug, PartialEq)]
@@ -12,12 +12,22 @@ pub struct Job {
 #[derive(Clone, Debug, PartialEq)]
 pub struct JobFile {
     pub limit: u8,
+    /// What tag 9 says, where it stands in the file.
+    pub boards: Option<u8>,
     pub jobs: Vec<Job>,
     pub needs: Vec<(usize, usize)>,
 }
 
 pub const LONGEST_FILE: usize = 16_384;
 pub const MOST_JOBS: usize = 64;
+pub const MOST_BOARDS: u8 = 8;
+
+impl JobFile {
+    /// The most boards that a table for the file may use.
+    pub fn most_boards(&self) -> u8 {
+        self.boards.unwrap_or(MOST_BOARDS)
+    }
+}
 
 /// May this byte stand in a name?
 pub fn in_name(byte: u8) -> bool {
@@ -29,12 +39,12 @@ pub fn read(bytes: &[u8]) -> Result<JobFile, u8> {
     if bytes.len() > LONGEST_FILE {
         return Err(2);
     }
-    let mut file = JobFile { limit: 0, jobs: Vec::new(), needs: Vec::new() };
+    let mut file = JobFile { limit: 0, boards: None, jobs: Vec::new(), needs: Vec::new() };
     let mut fields = 0;
     let mut rest = bytes;
     while !rest.is_empty() {
         let (tag, value, behind) = take_field(rest).ok_or(3)?;
-        if !(1..=5).contains(&tag) {
+        if !matches!(tag, 1..=5 | 9) {
             return Err(4);
         }
         let in_place = match fields {
@@ -50,6 +60,7 @@ pub fn read(bytes: &[u8]) -> Result<JobFile, u8> {
             2 => file.limit = read_limit(value)?,
             3 => read_job(value, &mut file)?,
             4 => read_need(value, &mut file)?,
+            9 => read_boards(value, &mut file)?,
             _ => (),
         }
         fields += 1;
@@ -84,6 +95,14 @@ fn read_limit(value: &[u8]) -> Result<u8, u8> {
     match value {
         [limit @ 1..=64] => Ok(*limit),
         _ => Err(6),
+    }
+}
+
+fn read_boards(value: &[u8], file: &mut JobFile) -> Result<(), u8> {
+    let [boards @ 1..=MOST_BOARDS] = value else { return Err(6) };
+    match file.boards.replace(*boards) {
+        None => Ok(()),
+        Some(_) => Err(21),
     }
 }
 

@@ -17,24 +17,25 @@ struct State {
 
 type States = HashSet<State, BuildHasherDefault<Mix>>;
 
-/// The shortest start list within the limit that keeps the rules, and of those the preferred one.
-pub fn best(graph: &Graph, limit: i32) -> Option<Vec<usize>> {
-    (1..=limit).find_map(|slots| Search::new(graph, slots, graph.windows(slots)).run())
+/// The shortest start list within the limit that keeps the rules and has no more jobs in any slot than there are boards,
+/// and of those the preferred one.
+pub fn best(graph: &Graph, limit: i32, most_boards: u8) -> Option<Vec<usize>> {
+    (1..=limit).find_map(|slots| Search::new(graph, slots, graph.windows(slots), most_boards).run())
 }
 
 /// The same list, found without formulas (1) and (2): every job may run in every slot.
-pub fn best_without_windows(graph: &Graph, limit: i32) -> Option<Vec<usize>> {
+pub fn best_without_windows(graph: &Graph, limit: i32, most_boards: u8) -> Option<Vec<usize>> {
     (1..=limit).find_map(|slots| {
         let open = Windows { releases: vec![0; graph.jobs()], deadlines: vec![slots; graph.jobs()] };
-        Search::new(graph, slots, open).run()
+        Search::new(graph, slots, open, most_boards).run()
     })
 }
 
 /// How many states the search meets: a measure of how hard the needs are.
-pub fn effort(graph: &Graph, limit: i32) -> usize {
+pub fn effort(graph: &Graph, limit: i32, most_boards: u8) -> usize {
     let mut states = 0;
     for slots in 1..=limit {
-        let search = Search::new(graph, slots, graph.windows(slots));
+        let search = Search::new(graph, slots, graph.windows(slots), most_boards);
         if search.has_room() {
             states += search.reached().iter().map(|layer| layer.len()).sum::<usize>();
             if search.run().is_some() {
@@ -52,10 +53,11 @@ struct Search {
     givers: Vec<u64>,
     /// The jobs that have a taker.
     giving: u64,
+    most_boards: u32,
 }
 
 impl Search {
-    fn new(graph: &Graph, slots: i32, windows: Windows) -> Search {
+    fn new(graph: &Graph, slots: i32, windows: Windows, most_boards: u8) -> Search {
         let giving: Vec<usize> = (0..graph.jobs()).filter(|&job| !graph.takers[job].is_empty()).collect();
         Search {
             jobs: graph.jobs(),
@@ -63,6 +65,7 @@ impl Search {
             windows,
             givers: graph.givers.iter().map(|givers| mask(givers)).collect(),
             giving: mask(&giving),
+            most_boards: most_boards as u32,
         }
     }
 
@@ -82,9 +85,10 @@ impl Search {
         self.walk(&good)
     }
 
-    /// Is no window empty?
+    /// Is no window empty, and is there a slot and a board for each job?
     fn has_room(&self) -> bool {
-        (0..self.jobs).all(|job| self.windows.releases[job] < self.windows.deadlines[job])
+        self.jobs <= self.slots * self.most_boards as usize
+            && (0..self.jobs).all(|job| self.windows.releases[job] < self.windows.deadlines[job])
     }
 
     /// For each slot the states before it that can be reached.
@@ -120,9 +124,10 @@ impl Search {
         State { done: state.done | set, last: set & self.giving }
     }
 
-    /// Every set of jobs that may run in a slot, the jobs for which it is the last chance among them.
+    /// Every set of jobs, no more than there are boards, that may run in a slot, the jobs for which it is the last chance
+    /// among them.
     fn sets(&self, state: State, slot: usize) -> Vec<u64> {
-        let mut sets = vec![(0, 0)];
+        let mut sets = vec![(0u64, 0)];
         for job in jobs_of(!state.done & (u64::MAX >> (64 - self.jobs))) {
             let slot = slot as i32;
             let tied = self.givers[job] & state.last;
@@ -134,7 +139,7 @@ impl Search {
             if may {
                 let with: Vec<(u64, u64)> = sets
                     .iter()
-                    .filter(|&&(_, used)| used & tied == 0)
+                    .filter(|&&(set, used)| set.count_ones() < self.most_boards && used & tied == 0)
                     .map(|&(set, used)| (set | 1 << job, used | tied))
                     .collect();
                 if must {

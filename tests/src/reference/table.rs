@@ -70,15 +70,15 @@ impl Table {
         end - self.rows[row].name.len()..end
     }
 
-    /// Question 16.
-    pub fn counts_are_right(&self, limit: u8) -> bool {
+    /// Question 16, for a limit and the most boards.
+    pub fn counts_are_right(&self, limit: u8, most_boards: u8) -> bool {
         let slots = self.rows.iter().map(|row| row.start as u32 + 1).max();
         let boards = self.rows.iter().map(|row| row.board).max();
         slots == Some(self.slots as u32)
             && self.slots <= limit
             && self.rows.iter().all(|row| row.board >= 1)
             && boards == Some(self.boards)
-            && self.boards <= 8
+            && self.boards <= most_boards
     }
 
     /// Question 17.

@@ -47,10 +47,47 @@ unfolding contentOk choose
 returns-4 c =
     simp (ne-eqb _ _ (c .before .before .before .if1 .left), ne-eqb _ _ (c .before .before .if2 .left), eq-eqb _ _ (c .before .if4 .taken), c .name-ok .ensures)
 
+shared-slice-read-if6 : tie.Need-shared-slice-read-if6
+unfolding fieldRow firstRow fieldRows choose
+shared-slice-read-if6 c =
+    omega (arith, value-long 9 _ _ (c .before .if5 .taken) (c .before .before .before .before .before .before .pre))
+
 returns-5 : tie.Need-returns-5
 unfolding contentOk choose
 returns-5 c =
-    simp (ne-eqb _ _ (c .before .before .if1 .left), ne-eqb _ _ (c .before .if2 .left), ne-eqb _ _ (c .if4 .left))
+    simp (
+      ne-eqb _ _ (c .before .before .before .before .before .if1 .left),
+      ne-eqb _ _ (c .before .before .before .before .if2 .left),
+      ne-eqb _ _ (c .before .before .before .if4 .left),
+      eq-eqb _ _ (c .before .before .if5 .taken),
+      lt-leb 1 _ (c .if6 .taken),
+    )
+
+shared-slice-read-result-3 : tie.Need-shared-slice-read-result-3
+unfolding fieldRow firstRow fieldRows choose
+shared-slice-read-result-3 c =
+    omega (arith, value-long 9 _ _ (c .before .before .before .if5 .taken) (c .before .before .before .before .before .before .before .before .pre))
+
+returns-6 : tie.Need-returns-6
+unfolding contentOk choose
+returns-6 c =
+    simp (
+      ne-eqb _ _ (c .before .before .before .before .before .before .if1 .left),
+      ne-eqb _ _ (c .before .before .before .before .before .if2 .left),
+      ne-eqb _ _ (c .before .before .before .before .if4 .left),
+      eq-eqb _ _ (c .before .before .before .if5 .taken),
+      le-leb 1 _ (c .before .if6 .left),
+    )
+
+returns-7 : tie.Need-returns-7
+unfolding contentOk choose
+returns-7 c =
+    simp (
+      ne-eqb _ _ (c .before .before .before .if1 .left),
+      ne-eqb _ _ (c .before .before .if2 .left),
+      ne-eqb _ _ (c .before .if4 .left),
+      ne-eqb _ _ (c .if5 .left),
+    )
 
 pub content-ok-spec : {M : Type 1} → statement M
 content-ok-spec =
@@ -64,4 +101,8 @@ content-ok-spec =
     returns-3
     name-ok-requires
     returns-4
-    returns-5)
+    shared-slice-read-if6
+    returns-5
+    shared-slice-read-result-3
+    returns-6
+    returns-7)

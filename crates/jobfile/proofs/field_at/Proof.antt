@@ -4,7 +4,7 @@ use Prim.Native.Nat.{_+_}
 use native.Mathlib.Omega.{arith}
 use borrow.Author.Tests.{not-true, not-false}
 use borrow.Author.Needs.{needs}
-use Rattle.jobfile.specs.FieldWays.{short-head, short-value, low-tag, high-tag, misplaced, too-short, too-long, found}
+use Rattle.jobfile.specs.FieldWays.{short-head, short-value, unknown-tag, misplaced, too-short, too-long, found}
 use Rattle.jobfile.proofs.field_at.Statement.{statement}
 use Rattle.jobfile.proofs.field_at.Tie as tie
 
@@ -54,29 +54,25 @@ returns-2 : tie.Need-returns-2
 returns-2 c =
     short-value _ _ _ _ _ (c .before .before .before .wide .ensures) (c .before .wide2 .ensures) (c .before .before .before .before .before .before .if1 .left) (c .if2 .taken)
 
+row-of-requires : tie.Need-row-of-requires
+row-of-requires c κs = search needs
+
 returns-3 : tie.Need-returns-3
 returns-3 c =
-    low-tag _ _ _ _ _ (c .before .before .before .before .wide .ensures) (c .before .before .wide2 .ensures) (c .before .before .before .before .before .before .before .if1 .left) (c .before .if2 .left) (c .if3 .taken)
-
-returns-4 : tie.Need-returns-4
-returns-4 c =
-    high-tag _ _ _ _ _ (c .before .before .before .before .before .wide .ensures) (c .before .before .before .wide2 .ensures) (c .before .before .before .before .before .before .before .before .if1 .left) (c .before .before .if2 .left) (c .if4 .taken)
+    let d = c .before .before in
+    unknown-tag _ _ _ _ _ (d .before .before .before .before .wide .ensures) (d .before .before .wide2 .ensures)
+    (d .before .before .before .before .before .before .before .if1 .left) (d .before .if2 .left) _ (d .row-of .ensures)
+    (c .if3 .taken)
 
 in-place-requires : tie.Need-in-place-requires
 in-place-requires c κs = search needs
 
-returns-5 : tie.Need-returns-5
-returns-5 c =
-    misplaced _ _ _ _ _ (c .before .before .before .before .before .before .before .wide .ensures) (c .before .before .before .before .before .wide2 .ensures) (c .before .before .before .before .before .before .before .before .before .before .if1 .left) (c .before .before .before .before .if2 .left) (c .before .before .before .if3 .left) (c .before .before .if4 .left) (sym (c .before .in-place .ensures) ∙ not-true _ (c .if5 .taken))
-
-cast-i : tie.Need-cast-i
-cast-i c = search needs
-
-mul-row : tie.Need-mul-row
-mul-row c = search needs
-
-array-copy-out-row : tie.Need-array-copy-out-row
-array-copy-out-row c = search needs
+returns-4 : tie.Need-returns-4
+returns-4 c =
+    let d = c .before .before .before .before in
+    misplaced _ _ _ _ _ (d .before .before .before .before .wide .ensures) (d .before .before .wide2 .ensures)
+    (d .before .before .before .before .before .before .before .if1 .left) (d .before .if2 .left) _ (d .row-of .ensures)
+    (c .before .before .if3 .left) (sym (c .before .in-place .ensures) ∙ not-true _ (c .if4 .taken))
 
 cast-least : tie.Need-cast-least
 cast-least c = search needs
@@ -84,20 +80,33 @@ cast-least c = search needs
 cast-greatest : tie.Need-cast-greatest
 cast-greatest c = search needs
 
+returns-5 : tie.Need-returns-5
+returns-5 c =
+    let d = c .before .before .before .before .before .before .before in
+    too-short _ _ _ _ _ (d .before .before .before .before .wide .ensures) (d .before .before .wide2 .ensures)
+    (d .before .before .before .before .before .before .before .if1 .left) (d .before .if2 .left) _ (d .row-of .ensures)
+    (c .before .before .before .before .before .if3 .left)
+    (sym (c .before .before .before .before .in-place .ensures) ∙ not-false _ (c .before .before .before .if4 .left)) (c .if5 .taken)
+
 returns-6 : tie.Need-returns-6
 returns-6 c =
-    too-short _ _ _ _ _ (c .before .before .before .before .before .before .before .before .before .before .before .wide .ensures) (c .before .before .before .before .before .before .before .before .before .wide2 .ensures) (c .before .before .before .before .before .before .before .before .before .before .before .before .before .before .if1 .left) (c .before .before .before .before .before .before .before .before .if2 .left) (c .before .before .before .before .before .before .before .if3 .left) (c .before .before .before .before .before .before .if4 .left) (sym (c .before .before .before .before .before .in-place .ensures) ∙ not-false _ (c .before .before .before .before .if5 .left)) _ (c .if6 .taken)
+    let d = c .before .before .before .before .before .before .before .before in
+    too-long _ _ _ _ _ (d .before .before .before .before .wide .ensures) (d .before .before .wide2 .ensures)
+    (d .before .before .before .before .before .before .before .if1 .left) (d .before .if2 .left) _ (d .row-of .ensures)
+    (c .before .before .before .before .before .before .if3 .left)
+    (sym (c .before .before .before .before .before .in-place .ensures) ∙ not-false _ (c .before .before .before .before .if4 .left)) (c .if6 .taken)
+
+add-t21 : tie.Need-add-t21
+add-t21 c = search needs
 
 returns-7 : tie.Need-returns-7
 returns-7 c =
-    too-long _ _ _ _ _ (c .before .before .before .before .before .before .before .before .before .before .before .before .wide .ensures) (c .before .before .before .before .before .before .before .before .before .before .wide2 .ensures) (c .before .before .before .before .before .before .before .before .before .before .before .before .before .before .before .if1 .left) (c .before .before .before .before .before .before .before .before .before .if2 .left) (c .before .before .before .before .before .before .before .before .if3 .left) (c .before .before .before .before .before .before .before .if4 .left) (sym (c .before .before .before .before .before .before .in-place .ensures) ∙ not-false _ (c .before .before .before .before .before .if5 .left)) _ (c .if7 .taken)
-
-add-t16 : tie.Need-add-t16
-add-t16 c = search needs
-
-returns-8 : tie.Need-returns-8
-returns-8 c =
-    found _ _ _ _ _ (c .before .before .before .before .before .before .before .before .before .before .before .before .wide .ensures) (c .before .before .before .before .before .before .before .before .before .before .wide2 .ensures) (c .before .before .before .before .before .before .before .before .before .before .before .before .before .before .before .if1 .left) (c .before .before .before .before .before .before .before .before .before .if2 .left) (c .before .before .before .before .before .before .before .before .if3 .left) (c .before .before .before .before .before .before .before .if4 .left) (sym (c .before .before .before .before .before .before .in-place .ensures) ∙ not-false _ (c .before .before .before .before .before .if5 .left)) _ (c .before .if6 .left) (c .if7 .left)
+    let d = c .before .before .before .before .before .before .before .before in
+    found _ _ _ _ _ (d .before .before .before .before .wide .ensures) (d .before .before .wide2 .ensures)
+    (d .before .before .before .before .before .before .before .if1 .left) (d .before .if2 .left) _ (d .row-of .ensures)
+    (c .before .before .before .before .before .before .if3 .left)
+    (sym (c .before .before .before .before .before .in-place .ensures) ∙ not-false _ (c .before .before .before .before .if4 .left))
+    (c .before .if5 .left) (c .if6 .left)
 
 pub field-at-spec : {M : Type 1} → statement M
 field-at-spec =
@@ -117,16 +126,13 @@ field-at-spec =
     add-start
     sub-if2
     returns-2
+    row-of-requires
     returns-3
-    returns-4
     in-place-requires
-    returns-5
-    cast-i
-    mul-row
-    array-copy-out-row
+    returns-4
     cast-least
     cast-greatest
+    returns-5
     returns-6
-    returns-7
-    add-t16
-    returns-8)
+    add-t21
+    returns-7)

@@ -77,13 +77,39 @@ unfolding takeField ask choose
 returns-5 c =
     (c .take-need .ensures .0 _ ∙ simp (sym (c .before .before .before .before .before .before .content-ok .ensures) ∙ not-false _ (c .before .before .before .before .before .if1 .left), ne-eqb _ _ (c .before .before .before .before .if2 .left), ne-eqb _ _ (c .before .before .before .if3 .left), eq-eqb _ _ (c .before .before .if5 .taken)), c .take-need .ensures .1)
 
+take-sockets-requires : tie.Need-take-sockets-requires
+unfolding fieldRow firstRow fieldRows choose
+take-sockets-requires c κs =
+    let h = value-long 9 _ _ (c .if6 .taken) (c .before .before .before .before .before .before .before .pre .4) in search needs
+
+returns-6 : tie.Need-returns-6
+unfolding takeField ask choose
+returns-6 c = (
+  c .take-sockets .ensures _ _ _ ∙ simp (
+    sym (c .before .before .before .before .before .before .content-ok .ensures) ∙ not-false _ (c .before .before .before .before .before .if1 .left),
+    ne-eqb _ _ (c .before .before .before .before .if2 .left),
+    ne-eqb _ _ (c .before .before .before .if3 .left),
+    ne-eqb _ _ (c .before .before .if5 .left),
+    eq-eqb _ _ (c .before .if6 .taken),
+  ),
+  refl,
+)
+
 add-t21 : tie.Need-add-t21
 add-t21 c = search needs
 
-returns-6 : tie.Need-returns-6
+returns-7 : tie.Need-returns-7
 unfolding answerOf takeField ask choose
-returns-6 c =
-    (simp (sym (c .before .before .before .before .before .content-ok .ensures) ∙ not-false _ (c .before .before .before .before .if1 .left), ne-eqb _ _ (c .before .before .before .if2 .left), ne-eqb _ _ (c .before .before .if3 .left), ne-eqb _ _ (c .before .if5 .left)), refl)
+returns-7 c = (
+  simp (
+    sym (c .before .before .before .before .before .before .content-ok .ensures) ∙ not-false _ (c .before .before .before .before .before .if1 .left),
+    ne-eqb _ _ (c .before .before .before .before .if2 .left),
+    ne-eqb _ _ (c .before .before .before .if3 .left),
+    ne-eqb _ _ (c .before .before .if5 .left),
+    ne-eqb _ _ (c .before .if6 .left),
+  ),
+  refl,
+)
 
 pub take-field-spec : {M : Type 1} → statement M
 take-field-spec =
@@ -106,5 +132,7 @@ take-field-spec =
     returns-4
     take-need-requires
     returns-5
+    take-sockets-requires
+    returns-6
     add-t21
-    returns-6)
+    returns-7)

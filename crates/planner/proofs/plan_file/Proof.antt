@@ -9,9 +9,10 @@ use Prim.Native.Nat.{ℕ}
 use lib.ListN.{length, length-replicate}
 use Rattle.jobset.specs.Arrays.{giversIn, takersIn, length-part}
 use Rattle.windows.specs.Windows.{lowerJobs, higherJobs}
-use Rattle.planner.specs.Planner.{JobsRead}
+use Rattle.rules.specs.JobFile.{mostBoards}
+use Rattle.planner.specs.Planner.{JobsRead, capOf, firstLength}
 use Rattle.planner.specs.Filling.{Filled, withPart, length-with, length-table, filled}
-use Rattle.planner.specs.Asked.{read-refused, jobs-read, givers-levels, takers-levels, refused-11, refused-12, windows-read}
+use Rattle.planner.specs.Asked.{read-refused, jobs-read, boards-read, cap-pos, givers-levels, takers-levels, refused-11, refused-12, windows-read}
 use Rattle.planner.proofs.plan_file.Statement.{statement}
 use Rattle.planner.proofs.plan_file.Tie as tie
 
@@ -142,14 +143,30 @@ returns-3 c =
     let j = read (c .before .before .before .before .before .before .before .before .before .before .before .before .before .before .before .before .before .before .before .before .before .before) in
     refused-12 _ _ _ _ _ _ j _ (givers-levels _ _ _ _ _ _ j _ (c .before .before .before .before .before .before .before .before .before .before .before .before .before .before .before .before .before .before .before .before .levels .ensures)) (not-false _ (c .before .before .before .before .before .before .before .before .before .before .before .before .before .before .before .before .before .before .if2 .left)) _ (takers-levels _ _ _ _ _ _ j _ (c .before .before .before .before .before .before .before .before .before .before .before .before .before .before .before .levels2 .ensures)) _ (tables-filled (c .before .before .before .before .before .before)) _ (c .before .width .ensures) _ (c .if3 .taken)
 
+most-boards-requires : tie.Need-most-boards-requires
+most-boards-requires c κs = search needs
+
+cap-of-requires : tie.Need-cap-of-requires
+cap-of-requires c κs = search needs
+
+-- the cap is that of the file's width and boards
+cap-read : (c : tie.After-cap-of) → c .cap-of .result ≡ capOf (c .before .before .before .width .result) (mostBoards (read (c .before .before .before .before .before .before .before .before .before .before .before .before .before .before .before .before .before .before .before .before .before .before .before .before) .file))
+cap-read c = c .cap-of .ensures ∙ ap (capOf (c .before .before .before .width .result)) (boards-read _ _ _ _ _ (c .before .before .before .before .before .before .before .before .before .before .before .before .before .before .before .before .before .before .before .before .before .before .before .before .before .read-file .ensures .0) (read (c .before .before .before .before .before .before .before .before .before .before .before .before .before .before .before .before .before .before .before .before .before .before .before .before)) _ (c .before .most-boards .ensures))
+
 least-requires : tie.Need-least-requires
-least-requires c κs = read (c .before .before .before .before .before .before .before .before .before .before .before .before .before .before .before .before .before .before .before .before .before .before .before .before) .held .few
+least-requires c κs = read (c .before .before .before .before .before .before .before .before .before .before .before .before .before .before .before .before .before .before .before .before .before .before .before .before .before .before) .held .few
+
+first-length-requires : tie.Need-first-length-requires
+first-length-requires c κs = let j = read (c .before .before .before .before .before .before .before .before .before .before .before .before .before .before .before .before .before .before .before .before .before .before .before .before .before .before .before) in (rw (cap-read (c .before .before .before)) (cap-pos _ _ _ _ _ _ j (c .before .before .before .before .before .before .width .result)), j .held .few)
 
 plan-windows-requires : tie.Need-plan-windows-requires
 plan-windows-requires c κs =
-    let p = c .before .before .before .before .before .before .before .before .before .before .before .before .before .before .before .before .before .before .before .before .before .before .before .before .before .before .before .before .before .before .before .before .before .before .before .before .pre in
-    let j = read (c .before .before .before .before .before .before .before .before .before .before .before .before .before .before .before .before .before .before .before .before .before .before .before .before .before .before .before .before .before) in
-    (p .0, p .1, windows-read _ _ _ _ _ _ j _ (givers-levels _ _ _ _ _ _ j _ (c .before .before .before .before .before .before .before .before .before .before .before .before .before .before .before .before .before .before .before .before .before .before .before .before .before .before .before .levels .ensures)) (not-false _ (c .before .before .before .before .before .before .before .before .before .before .before .before .before .before .before .before .before .before .before .before .before .before .before .before .before .if2 .left)) _ (takers-levels _ _ _ _ _ _ j _ (c .before .before .before .before .before .before .before .before .before .before .before .before .before .before .before .before .before .before .before .before .before .before .levels2 .ensures)) _ (tables-filled (c .before .before .before .before .before .before .before .before .before .before .before .before .before)) _ (c .before .before .before .before .before .before .before .before .width .ensures) (c .before .before .before .before .before .before .before .if3 .left) _ (c .before .before .before .before .least .ensures))
+    let p = c .before .before .before .before .before .before .before .before .before .before .before .before .before .before .before .before .before .before .before .before .before .before .before .before .before .before .before .before .before .before .before .before .before .before .before .before .before .before .before .pre in
+    let j = read (c .before .before .before .before .before .before .before .before .before .before .before .before .before .before .before .before .before .before .before .before .before .before .before .before .before .before .before .before .before .before .before .before) in
+    let before = givers-levels _ _ _ _ _ _ j _ (c .before .before .before .before .before .before .before .before .before .before .before .before .before .before .before .before .before .before .before .before .before .before .before .before .before .before .before .before .before .before .levels .ensures) in
+    let behind = takers-levels _ _ _ _ _ _ j _ (c .before .before .before .before .before .before .before .before .before .before .before .before .before .before .before .before .before .before .before .before .before .before .before .before .before .levels2 .ensures) in
+    let first = c .before .before .before .before .first-length .ensures ∙ ap (λ (l : ℕ). firstLength l (c .before .before .before .before .before .before .before .before .before .before .before .before .before .before .before .before .before .before .before .before .before .before .before .before .before .before .before .before .before .before .before .before .before .read-file .result .jobs) (c .before .before .before .before .before .before .before .before .cap-of .result)) (c .before .before .before .before .before .least .ensures) in
+    (p .0, p .1, windows-read _ _ _ _ _ _ j _ before (not-false _ (c .before .before .before .before .before .before .before .before .before .before .before .before .before .before .before .before .before .before .before .before .before .before .before .before .before .before .before .before .if2 .left)) _ behind _ (tables-filled (c .before .before .before .before .before .before .before .before .before .before .before .before .before .before .before .before)) _ (c .before .before .before .before .before .before .before .before .before .before .before .width .ensures) (c .before .before .before .before .before .before .before .before .before .before .if3 .left) _ _ (cap-read (c .before .before .before .before .before .before .before .before)) first)
 
 same-length : tie.Need-same-length
 same-length c = search needs
@@ -191,7 +208,10 @@ plan-file-spec =
     part-width-end-2
     width-requires
     returns-3
+    most-boards-requires
+    cap-of-requires
     least-requires
+    first-length-requires
     plan-windows-requires
     same-length
     same-length-2

@@ -13,33 +13,33 @@ search-requires c κs =
     let w = p .2 in
     let l = w .jobs .keeps .limit-in in
     let e = w .jobs .held .limit-is in
-    (p .0, omega arith, well-formed _ _ _ _ _ _ w)
+    (p .0, omega arith, well-formed _ _ _ _ _ _ _ w)
 
 same-length : tie.Need-same-length
 same-length c = search needs
 
 returns : tie.Need-returns
 returns c =
-    none-found _ _ _ _ _ _ (c .before .before .before .before .before .before .before .before .pre .2) _ (c .before .before .before .search .ensures ∙ found-best _ _ _ _ _ _ (c .before .before .before .before .before .before .before .before .pre .2)) _ (c .if1 .taken)
+    none-found _ _ _ _ _ _ _ (c .before .before .before .before .before .before .before .before .pre .2) _ (c .before .before .before .search .ensures ∙ found-best _ _ _ _ _ _ _ (c .before .before .before .before .before .before .before .before .pre .2)) _ (c .if1 .taken)
 
 place-requires : tie.Need-place-requires
 place-requires c κs =
     let w = c .before .before .before .before .before .before .before .before .before .before .pre .2 in
-    let e = c .before .before .before .before .before .search .ensures ∙ found-best _ _ _ _ _ _ w in
-    startable _ _ _ _ _ _ w _ e (chosen _ _ _ _ _ _ w _ e (c .before .before .if1 .left))
+    let e = c .before .before .before .before .before .search .ensures ∙ found-best _ _ _ _ _ _ _ w in
+    startable _ _ _ _ _ _ _ w _ e (chosen _ _ _ _ _ _ _ w _ e (c .before .before .if1 .left))
 
 cast-write-table : tie.Need-cast-write-table
 cast-write-table c =
     let w = c .before .before .before .before .before .before .before .before .before .before .before .before .before .before .pre .2 in
-    let e = c .before .before .before .before .before .before .before .before .before .search .ensures ∙ found-best _ _ _ _ _ _ w in
-    let l = slots-few _ _ _ _ _ _ w _ e (chosen _ _ _ _ _ _ w _ e (c .before .before .before .before .before .before .if1 .left)) in
+    let e = c .before .before .before .before .before .before .before .before .before .search .ensures ∙ found-best _ _ _ _ _ _ _ w in
+    let l = slots-few _ _ _ _ _ _ _ w _ e (chosen _ _ _ _ _ _ _ w _ e (c .before .before .before .before .before .before .if1 .left)) in
     search needs
 
 cast-write-table-2 : tie.Need-cast-write-table-2
 cast-write-table-2 c =
     let w = c .before .before .before .before .before .before .before .before .before .before .before .before .before .before .before .pre .2 in
-    let e = c .before .before .before .before .before .before .before .before .before .before .search .ensures ∙ found-best _ _ _ _ _ _ w in
-    let l = count-few _ _ _ _ _ _ w _ e (chosen _ _ _ _ _ _ w _ e (c .before .before .before .before .before .before .before .if1 .left)) in
+    let e = c .before .before .before .before .before .before .before .before .before .before .search .ensures ∙ found-best _ _ _ _ _ _ _ w in
+    let l = count-few _ _ _ _ _ _ _ w _ e (chosen _ _ _ _ _ _ _ w _ e (c .before .before .before .before .before .before .before .if1 .left)) in
     let q = ap (λ x. x .count) (c .before .before .before .before .place .ensures) in
     search needs
 
@@ -57,8 +57,8 @@ same-length-3 c = search needs
 returns-2 : tie.Need-returns-2
 returns-2 c =
     let w = c .before .before .before .before .before .before .before .before .before .before .before .before .before .before .before .before .before .before .before .pre .2 in
-    let e = c .before .before .before .before .before .before .before .before .before .before .before .before .before .before .search .ensures ∙ found-best _ _ _ _ _ _ w in
-    table-written _ _ _ _ _ _ w _ e (chosen _ _ _ _ _ _ w _ e (c .before .before .before .before .before .before .before .before .before .before .before .if1 .left)) _ (c .before .before .before .before .before .before .before .before .place .ensures) _ _ _ (c .before .before .write-table .ensures .0) (c .before .before .write-table .ensures .1)
+    let e = c .before .before .before .before .before .before .before .before .before .before .before .before .before .before .search .ensures ∙ found-best _ _ _ _ _ _ _ w in
+    table-written _ _ _ _ _ _ _ w _ e (chosen _ _ _ _ _ _ _ w _ e (c .before .before .before .before .before .before .before .before .before .before .before .if1 .left)) _ (c .before .before .before .before .before .before .before .before .place .ensures) _ _ _ (c .before .before .write-table .ensures .0) (c .before .before .write-table .ensures .1)
 
 pub plan-windows-spec : {M : Type 1} → statement M
 plan-windows-spec =
