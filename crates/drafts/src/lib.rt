@@ -64,6 +64,16 @@ pub fn put_need(file: &mut [u8; 1222], at: usize, giver: u8, taker: u8) -> usize
     at + 5
 }
 
+// The most boards, behind so many bytes. Gives the length with them.
+pub fn put_sockets(file: &mut [u8; 1222], at: usize, boards: u8) -> usize
+    requires { ⌜ at ≤ 1218 ⌝ }
+    ensures { λ r. ⌜ r ≡ at + 4 ⌝ }
+{
+    put_field(file, at, 9, 1);
+    put(file, at + 3, boards);
+    at + 4
+}
+
 // Behind so many bytes, a need from each of so many jobs, but the last, to the next. Gives the length with them.
 pub fn put_chain(file: &mut [u8; 1222], from: usize, count: u8) -> usize
     requires { ⌜ (from ≤ 400) × (count ≤ 65) ⌝ }

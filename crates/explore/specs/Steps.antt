@@ -15,7 +15,7 @@ use Rattle.jobset.specs.declared.Set.{Set}
 use Rattle.jobset.specs.Sets.{union, isSubset, isEmpty, nextBelow, Subset}
 use Rattle.jobset.specs.Inclusion.{is-subset, subset-le, subset-trans}
 use Rattle.jobset.specs.FallingSubsets.{no-subset-between, next-less, next-subset}
-use Rattle.bitmap.specs.Marks.{isMarked, withMark}
+use Rattle.bitmap.specs.Marks.{isMarked}
 use Rattle.explore.specs.declared.Candidates.{Candidates}
 use Rattle.explore.specs.Slot.{Tables, dueAt, candidatesAt, chosen, allowed, fitted, slotSet}
 use Rattle.explore.specs.CandidateLaws.{allowed-iff, fitted-subset, fitted-above}

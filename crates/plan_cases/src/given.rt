@@ -1,4 +1,4 @@
-// The cases of document 01 whose files are given by their bytes, and files for the refusals that it names no case of.
+// The cases of document 01 whose files are given by their bytes, tag 9 as document 02, request 13, has it, and files for the refusals that it names no case of.
 use crate::answers::plan;
 use crate::answers::plan_bytes;
 use crate::answers::plan_short_table;
@@ -17,11 +17,13 @@ fn example() {
 fn first_fields() {
     plan(b"10 no byte", b"");
     plan(b"5 header and comment", b"\x01\x01\x00\x01\x05\x00\x00");
-    plan(b"4 tag 9 first", b"\x09\x00\x00");
+    plan(b"5 tag 9 first", b"\x09\x00\x00");
+    plan(b"5 tag 9 second", b"\x01\x01\x00\x01\x09\x01\x00\x02");
     plan(b"5 tag 3 first", b"\x03\x03\x00\x0f\x00a");
 }
 
 fn later_fields() {
+    plan(b"4 tag 10", b"\x01\x01\x00\x01\x02\x01\x00\x03\x0a\x00\x00");
     plan(b"3 half a head", b"\x01\x01\x00\x01\x02\x01\x00\x03\x03");
     plan(
         b"3 half a value",
@@ -34,13 +36,16 @@ fn later_fields() {
     plan(b"6 limit 65", b"\x01\x01\x00\x01\x02\x01\x00\x41");
 }
 
-// Bytes at the front of a file.
-fn put(file: &mut [u8], bytes: &[u8]) {
+// These bytes, behind so many of a file. Gives the length with them.
+pub(crate) fn put(file: &mut [u8], from: usize, bytes: &[u8]) -> usize {
+    let mut at = from;
     let mut i = 0;
-    while i < bytes.len() && i < file.len() {
-        file[i] = bytes[i];
+    while i < bytes.len() && at < file.len() {
+        file[at] = bytes[i];
+        at += 1;
         i += 1;
     }
+    at
 }
 
 // One job, limit 1, and a comment up to the last byte that a file may have.
@@ -48,6 +53,7 @@ fn longest() {
     let mut file = [0; 16384];
     put(
         &mut file,
+        0,
         b"\x01\x01\x00\x01\x02\x01\x00\x01\x03\x03\x00\x0f\x00a\x05\xef\x3f",
     );
     plan(b"a file of 16384 bytes", &file);
@@ -58,6 +64,7 @@ fn too_long() {
     let mut file = [0; 16385];
     put(
         &mut file,
+        0,
         b"\x01\x01\x00\x01\x02\x01\x00\x01\x03\x03\x00\x0f\x00a\x05\xf0\x3f",
     );
     plan(b"2 a file of 16385 bytes", &file);

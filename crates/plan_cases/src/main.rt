@@ -1,10 +1,12 @@
-// The cases of document 01 that name the planner: a line for each, with the planner's answer, what the check says of the table,
-// and whether both buffers are as that answer leaves them.
+// The cases of document 01 that name the planner, and those of tag 9 (document 02, request 13): a line for each, with the planner's
+// answer, what the check says of the table, and whether both buffers are as that answer leaves them.
 mod answers;
 mod given;
 mod paper;
+mod sockets;
 
 fn main() {
     paper::all();
     given::all();
+    sockets::all();
 }

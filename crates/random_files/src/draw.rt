@@ -1,11 +1,37 @@
-// Random numbers, needs and job files of at most five jobs.
+// Random numbers, sizes, needs and job files of at most five jobs.
 //
 // Jobs count from 0. Needs are a table of 25: the need from a giver to a taker stands at five times the giver plus the taker, 1 where it is there.
 ghost use Prim.Native.Nat.{_≤_};
 
+// What a job file says besides its needs. `sockets` is the value of tag 9, 0 where there is none.
+pub(crate) struct Sizes {
+    pub jobs: u8,
+    pub limit: u8,
+    pub sockets: u8,
+}
+
 // The next number. Its upper half is what is used.
 pub(crate) fn next(seed: u64) -> u64 {
     (seed % 4294967296 * 1664525 + 1013904223) % 4294967296
+}
+
+// 1 to 5 jobs, five of them in half of the files.
+pub(crate) fn jobs_of(number: u64) -> u8
+    ensures { λ r. ⌜ r ≤ 5 ⌝ }
+{
+    let jobs = 1 + (number % 8) as u8;
+    if jobs < 5 { jobs } else { 5 }
+}
+
+// The value of tag 9 in half of the files: 1 to 4, now and then 8.
+pub(crate) fn sockets_of(number: u64) -> u8 {
+    if number % 2 == 0 {
+        return 0;
+    }
+    if number / 2 % 16 == 0 {
+        return 8;
+    }
+    1 + (number / 32 % 4) as u8
 }
 
 // The rank of a job in a random order, 0 to 7.
@@ -46,28 +72,25 @@ pub(crate) fn draw_needs(seed: u64, jobs: usize, needs: &mut [u8; 25]) -> u64 {
     last
 }
 
-// The need at a place of the table, where it is there, behind so many bytes. Gives the length with it.
-fn put_if(file: &mut [u8; 1222], needs: &[u8; 25], place: usize, at: usize) -> usize {
+// The need at a place of the table, where it is there, behind so many bytes; at place 0, which no need has, the field of tag 9. Gives the length with it.
+fn put_if(file: &mut [u8; 1222], sockets: u8, needs: &[u8; 25], place: usize, at: usize) -> usize {
+    if place == 0 && at <= 1217 && sockets != 0 {
+        return drafts::put_sockets(file, at, sockets);
+    }
     if place < 25 && at <= 1217 && needs[place] == 1 {
         return drafts::put_need(file, at, 1 + (place / 5) as u8, 1 + (place % 5) as u8);
     }
     at
 }
 
-// The job file with these needs, in the order of the table from a place on and then around. Gives its length.
-pub(crate) fn put_file(
-    file: &mut [u8; 1222],
-    limit: u8,
-    jobs: u8,
-    needs: &[u8; 25],
-    first: usize,
-) -> usize
-    requires { ⌜ (jobs ≤ 5) × (first ≤ 25) ⌝ }
+// The job file of these sizes with these needs, in the order of the table from a place on and then around. Gives its length.
+pub(crate) fn put_file(file: &mut [u8; 1222], sizes: Sizes, needs: &[u8; 25], first: usize) -> usize
+    requires { ⌜ (sizes .jobs ≤ 5) × (first ≤ 25) ⌝ }
 {
-    let mut at = drafts::put_jobs(file, limit, jobs);
+    let mut at = drafts::put_jobs(file, sizes.limit, sizes.jobs);
     let mut k = 0;
     while k < 25 {
-        at = put_if(file, needs, (first + k) % 25, at);
+        at = put_if(file, sizes.sockets, needs, (first + k) % 25, at);
         k += 1;
     }
     at

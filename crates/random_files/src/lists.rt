@@ -1,6 +1,10 @@
-// What the planner is to answer for at most five jobs, by a search through all lists of starts 0 to 5, from the words of document 01.
+// What the planner is to answer for at most five jobs, by a search through all lists of starts 0 to 5, from the words of document 01
+// and of document 02, request 13.
 //
 // A list has a number below 7,776: its starts are the digits in base six, the first job's last. A job that the file does not have starts in slot 0.
+
+use crate::draw::Sizes;
+ghost use Prim.Native.Nat.{_≤_};
 
 // The refusals of questions 11 and 13, as the form for C gives them.
 pub const CIRCLE: u32 = 65547;
@@ -101,6 +105,41 @@ fn crowded(needs: &[u8; 25], starts: &[u8; 5]) -> bool {
     false
 }
 
+// 1 where one of so many jobs starts in the slot.
+fn runs(starts: &[u8; 5], jobs: u8, slot: u8, job: u8) -> u8
+    ensures { λ r. ⌜ r ≤ 1 ⌝ }
+{
+    if job < jobs && of(starts, job as usize) == slot {
+        return 1;
+    }
+    0
+}
+
+// How many of so many jobs start in the slot.
+fn load(starts: &[u8; 5], jobs: u8, slot: u8) -> u8 {
+    let front = runs(starts, jobs, slot, 0) + runs(starts, jobs, slot, 1);
+    let back = runs(starts, jobs, slot, 3) + runs(starts, jobs, slot, 4);
+    front + runs(starts, jobs, slot, 2) + back
+}
+
+// The most boards, eight without tag 9.
+fn most_boards(sockets: u8) -> u8 {
+    if sockets == 0 { 8 } else { sockets }
+}
+
+// Do more jobs start in some slot than there are boards?
+fn overloaded(sizes: Sizes, starts: &[u8; 5]) -> bool {
+    let most = most_boards(sizes.sockets);
+    let mut slot = 0;
+    while slot < 6 {
+        if most < load(starts, sizes.jobs, slot) {
+            return true;
+        }
+        slot += 1;
+    }
+    false
+}
+
 // Is the list a preferred to b? The earliest slot whose jobs differ decides, and there the lowest job that runs in just one of them.
 fn preferred(a: &[u8; 5], b: &[u8; 5]) -> bool {
     let mut k: u8 = 0;
@@ -126,14 +165,22 @@ fn before(starts: &[u8; 5], other: &[u8; 5]) -> bool {
     preferred(starts, other)
 }
 
-// Does the list of a number fit the limit, satisfy P, and come before the best so far?
-fn better(needs: &[u8; 25], limit: u8, number: u32, best: u32) -> bool {
-    let starts = list(number);
-    if limit < slots(&starts) || early(needs, &starts) || crowded(needs, &starts) {
+// Does a list fit the limit and the boards, and satisfy P?
+fn fits(needs: &[u8; 25], sizes: Sizes, starts: &[u8; 5]) -> bool {
+    if sizes.limit < slots(starts) || overloaded(sizes, starts) {
         return false;
     }
+    !early(needs, starts) && !crowded(needs, starts)
+}
+
+// Does the list of a number come before the best so far, and fit?
+fn better(needs: &[u8; 25], sizes: Sizes, number: u32, best: u32) -> bool {
+    let starts = list(number);
     let other = list(best);
-    best == NONE || before(&starts, &other)
+    if best != NONE && !before(&starts, &other) {
+        return false;
+    }
+    fits(needs, sizes, &starts)
 }
 
 // Adds what a chain by way of one more job leads to.
@@ -158,16 +205,16 @@ fn circle(needs: &[u8; 25]) -> bool {
     reached[0] == 1 || reached[6] == 1 || reached[12] == 1 || reached[18] == 1 || reached[24] == 1
 }
 
-// The number of the best list of so many jobs, or the refusal.
-pub(crate) fn best(needs: &[u8; 25], limit: u8, jobs: u8) -> u32 {
+// The number of the best list for these sizes, or the refusal.
+pub(crate) fn best(needs: &[u8; 25], sizes: Sizes) -> u32 {
     if circle(needs) {
         return CIRCLE;
     }
-    let many = lists(jobs);
+    let many = lists(sizes.jobs);
     let mut best = NONE;
     let mut number = 0;
     while number < many {
-        if better(needs, limit, number, best) {
+        if better(needs, sizes, number, best) {
             best = number;
         }
         number += 1;

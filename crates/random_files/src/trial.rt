@@ -1,7 +1,10 @@
 // The planner on random files, compared with the search, and what is counted.
+use crate::draw::Sizes;
 use crate::draw::draw_needs;
+use crate::draw::jobs_of;
 use crate::draw::next;
 use crate::draw::put_file;
+use crate::draw::sockets_of;
 use crate::lists::CIRCLE;
 use crate::lists::NONE;
 use crate::lists::best;
@@ -11,7 +14,6 @@ use crate::lists::of;
 use crate::lists::slots;
 use crate::placing::place;
 use libc::STDOUT_FILENO;
-ghost use Prim.Native.Nat.{_≤_};
 
 // How many files.
 const FILES: u64 = 5000;
@@ -95,7 +97,7 @@ fn say(file: &[u8], needs: &[u8; 25], jobs: usize, number: u32, work: &mut [u8; 
     if answer == number { number } else { DIFFERS }
 }
 
-// The place of a count: tables, refused 11, refused 13; the sum of slots stands at 3; differ, check refused.
+// The place of a count: tables, refused 11, refused 13; the sum of slots stands at 3; differ, check refused; those that tag 9 changed stand at 6.
 fn place_of(said: u32) -> usize {
     match said {
         CIRCLE => 1,
@@ -111,14 +113,14 @@ fn sum(n: u64, more: u32) -> u64 {
 }
 
 // Adds to a count.
-fn add(counts: &mut [u64; 6], place: usize, more: u32) {
-    if place < 6 {
+fn add(counts: &mut [u64; 7], place: usize, more: u32) {
+    if place < 7 {
         counts[place] = sum(counts[place], more);
     }
 }
 
 // Counts a file of which this is said.
-fn count(counts: &mut [u64; 6], said: u32) {
+fn count(counts: &mut [u64; 7], said: u32) {
     let place = place_of(said);
     add(counts, place, 1);
     if place == 0 {
@@ -126,24 +128,30 @@ fn count(counts: &mut [u64; 6], said: u32) {
     }
 }
 
-// 1 to 5 jobs, five of them in half of the files.
-fn jobs_of(number: u64) -> u8
-    ensures { λ r. ⌜ r ≤ 5 ⌝ }
-{
-    let jobs = 1 + (number % 8) as u8;
-    if jobs < 5 { jobs } else { 5 }
+// Would the search give another number without tag 9?
+fn changed(needs: &[u8; 25], sizes: Sizes, number: u32) -> bool {
+    let without = Sizes {
+        jobs: sizes.jobs,
+        limit: sizes.limit,
+        sockets: 0,
+    };
+    sizes.sockets != 0 && best(needs, without) != number
 }
 
 // One file, with limit 1 to 6. Gives the last number drawn.
-fn try_file(seed: u64, work: &mut [u8; 65536], counts: &mut [u64; 6]) -> u64 {
+fn try_file(seed: u64, work: &mut [u8; 65536], counts: &mut [u64; 7]) -> u64 {
     let number = seed / 65536;
     let jobs = jobs_of(number);
-    let limit = 1 + (number / 8 % 6) as u8;
     let mut needs = [0; 25];
     let last = draw_needs(next(seed), jobs as usize, &mut needs);
+    let sizes = Sizes {
+        jobs,
+        limit: 1 + (number / 8 % 6) as u8,
+        sockets: sockets_of(last / 65536),
+    };
     let mut file = [0; 1222];
-    let size = put_file(&mut file, limit, jobs, &needs, (number / 64 % 25) as usize);
-    let right = best(&needs, limit, jobs);
+    let size = put_file(&mut file, sizes, &needs, (number / 64 % 25) as usize);
+    let right = best(&needs, sizes);
     count(
         counts,
         say(
@@ -154,11 +162,14 @@ fn try_file(seed: u64, work: &mut [u8; 65536], counts: &mut [u64; 6]) -> u64 {
             work,
         ),
     );
+    if changed(&needs, sizes, right) {
+        add(counts, 6, 1);
+    }
     next(last)
 }
 
 // All files.
-fn try_files(work: &mut [u8; 65536], counts: &mut [u64; 6]) {
+fn try_files(work: &mut [u8; 65536], counts: &mut [u64; 7]) {
     let mut seed = 1;
     let mut i = 0;
     while i < FILES {
@@ -174,24 +185,25 @@ fn show(label: &[u8], number: u64) {
 }
 
 // A line with a count.
-fn show_count(label: &[u8], counts: &[u64; 6], place: usize) {
-    if place < 6 {
+fn show_count(label: &[u8], counts: &[u64; 7], place: usize) {
+    if place < 7 {
         show(label, counts[place]);
     }
 }
 
-fn show_counts(counts: &[u64; 6]) {
+fn show_counts(counts: &[u64; 7]) {
     show_count(b"tables ", counts, 0);
     show_count(b"refused 11 ", counts, 1);
     show_count(b"refused 13 ", counts, 2);
     show_count(b"sum of slots ", counts, 3);
     show_count(b"differ ", counts, 4);
     show_count(b"check refused ", counts, 5);
+    show_count(b"changed by tag 9 ", counts, 6);
 }
 
 pub(crate) fn all() {
     let mut work = io::large_buffer();
-    let mut counts = [0; 6];
+    let mut counts = [0; 7];
     try_files(&mut work, &mut counts);
     show(b"files ", FILES);
     show_counts(&counts);

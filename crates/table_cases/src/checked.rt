@@ -214,8 +214,16 @@ fn takers() {
 fn files() {
     file(b"10 no byte", b"");
     file(b"5 header and comment", b"\x01\x01\x00\x01\x05\x00\x00");
-    file(b"4 tag 9 first", b"\x09\x00\x00");
+    file(b"5 tag 9 first", b"\x09\x00\x00");
     file(b"5 tag 3 first", b"\x03\x03\x00\x0f\x00a");
+    file(
+        b"4 tag 10",
+        b"\x01\x01\x00\x01\x02\x01\x00\x03\x0a\x00\x00",
+    );
+    file(
+        b"21 tag 9 twice",
+        b"\x01\x01\x00\x01\x02\x01\x00\x03\x09\x01\x00\x02\x09\x01\x00\x02",
+    );
     file(
         b"11 needs 1-2, 2-1",
         b"\x01\x01\x00\x01\x02\x01\x00\x03\x03\x03\x00\x0f\x00a\x03\x03\x00\xf1\xffb\x04\x02\x00\x01\x02\x04\x02\x00\x02\x01",
@@ -226,6 +234,21 @@ fn files() {
     );
 }
 
+// Starts 0 0 2 on boards 1 2 3, and the example with tag 9.
+fn three_boards() {
+    let table =
+        b"\x10\x03\x00\x01\x03\x03\x11\x05\x00\x00\x01\x02\x00a\x11\x05\x00\x00\x02\xfe\xffb\x11\x05\x00\x02\x03\x00\x00c";
+    let two =
+        b"\x01\x01\x00\x01\x02\x01\x00\x03\x03\x03\x00\x0f\x00a\x03\x03\x00\xf1\xffb\x03\x03\x00\x04\x00c\x04\x02\x00\x01\x03\x04\x02\x00\x02\x03\x09\x01\x00\x02";
+    file(b"two boards, tag 9 with 2", two);
+    show(
+        b"16 three boards, tag 9 with 2",
+        gate::gate_check(two, table),
+    );
+    other(b"three boards without tag 9", table);
+    show(b"  in slot 2 on board 3", gate::gate_lookup(table, 2, 3));
+}
+
 pub(crate) fn all() {
     check(b"the example", &TABLE);
     decoding();
@@ -233,4 +256,5 @@ pub(crate) fn all() {
     cells();
     takers();
     files();
+    three_boards();
 }

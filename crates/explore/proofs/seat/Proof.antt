@@ -4,7 +4,7 @@ use borrow.Author.Tests.{le-leb, lt-leb}
 use native.Mathlib.Omega.{arith}
 use mathlib.Core.Path.{_≡_, refl}
 use mathlib.Core.Bool.{true, false}
-use Prim.Native.Nat.{_+_, _^_, _≤_, _<_}
+use Prim.Native.Nat.{_+_, _≤_}
 use lib.Dec.{leb}
 use Rattle.rules.specs.Basics.{choose}
 use Rattle.jobset.specs.Sets.{size}

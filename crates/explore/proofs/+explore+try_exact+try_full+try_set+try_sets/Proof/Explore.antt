@@ -4,14 +4,13 @@ use mathlib.Core.List.{List}
 use borrow.Author.Tests.{not-true, not-false}
 use native.Mathlib.Omega.{arith}
 use mathlib.Core.Path.{_≡_, refl, sym, ap, _∙_}
-use mathlib.Core.Bool.{true, false}
-use Prim.Native.Nat.{ℕ, _+_, _<_, _≤_}
-use lib.ListN.{length}
+use mathlib.Core.Bool.{false}
+use Prim.Native.Nat.{ℕ, _+_, _<_}
 use Rattle.rules.specs.Basics.{choose}
 use Rattle.jobset.specs.Sets.{isSubset}
 use Rattle.bitmap.specs.Marks.{isMarked, withMark}
 use Rattle.explore.specs.Slot.{Tables, tablesIn, dueAt}
-use Rattle.explore.specs.Model.{noPlan, written, isDone, key, Explored, opening, explored}
+use Rattle.explore.specs.Model.{written, isDone, key, opening, explored}
 use Rattle.explore.specs.Codes.{key-slot}
 use Rattle.explore.specs.Steps.{slotTries, InTime, in-time, explored-done, explored-late, explored-marked, explored-open}
 use Rattle.explore.proofs.explore.Reads as explore

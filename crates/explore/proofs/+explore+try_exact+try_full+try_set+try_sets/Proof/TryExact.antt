@@ -10,7 +10,7 @@ use Rattle.jobset.specs.declared.Set.{Set}
 use Rattle.jobset.specs.Sets.{nextBelow}
 use Rattle.explore.specs.declared.Candidates.{Candidates}
 use Rattle.explore.specs.Slot.{Tables, tablesIn, fitted}
-use Rattle.explore.specs.Model.{Plan, Explored, written}
+use Rattle.explore.specs.Model.{Explored, written}
 use Rattle.explore.specs.Steps.{count, count-less, attempted, Going, going-start, going-hit, going-on, going-end}
 use Rattle.explore.proofs.try_exact.Reads as try-exact
 use Rattle.explore.proofs.+explore+try_exact+try_full+try_set+try_sets.Lts-try_exact as try-exact-lts

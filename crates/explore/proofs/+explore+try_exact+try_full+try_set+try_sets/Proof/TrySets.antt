@@ -1,6 +1,5 @@
 -- `explore::try_sets` meets its contract. Assumes nothing.
 use native.Mathlib.Omega.{arith}
-use mathlib.Core.Path.{_∙_}
 use Prim.Native.Nat.{ℕ}
 use Rattle.explore.proofs.try_sets.Reads as try-sets
 use Rattle.explore.proofs.+explore+try_exact+try_full+try_set+try_sets.Lts-try_sets as try-sets-lts
