@@ -19,7 +19,7 @@
 #include <valgrind/callgrind.h>
 #include <vector>
 
-extern "C" Found product_search(const Tables *tables, size_t least, size_t limit, uint8_t *dead, size_t dead_len);
+extern "C" Found product_search(const Tables *tables, size_t least, size_t limit, uint8_t *dead, size_t dead_len, uint32_t cap);
 
 static_assert(sizeof(Tables) == 260 * sizeof(uint64_t), "the product takes the tables as one array");
 
@@ -41,8 +41,8 @@ struct Calls {
 
     void whole() { answer = gate_plan(file.data(), file.size(), work, sizeof work, table, sizeof table); }
     void other_whole() { other_answer = baseline_plan(file.data(), file.size(), work, sizeof work, other_table, sizeof other_table); }
-    void search() { new (&found) Found(product_search(&jobs.t, jobs.least, jobs.limit, work, sizeof work)); }
-    void other_search() { baseline_search(&jobs.t, jobs.least, jobs.limit, work, &other_found); }
+    void search() { new (&found) Found(product_search(&jobs.t, jobs.least, jobs.limit, work, sizeof work, jobs.cap)); }
+    void other_search() { baseline_search(&jobs.t, jobs.least, jobs.limit, jobs.cap, work, &other_found); }
 };
 
 void fail(const char *name, const char *why) {

@@ -2,53 +2,83 @@
 
     generate.py LIBRARY FOLDER small|full
 
-LIBRARY is the baseline as a shared library that counts (see build). Every seed is fixed: the same files each time.
-A file's name is FAMILY-JOBS-NUMBER-LIMIT.jobs, LIMIT one of tight (the optimum), below (one less: refusal 13) and loose (the
-largest that leaves the width at most 8).
+LIBRARY is the baseline as a shared library that counts (see run). Every seed is fixed: the same files each time.
+A file's name is FAMILY-JOBS-NUMBER-LIMIT.jobs, LIMIT one of tight (the optimum), below (one less: refusal 13), loose (the
+largest that leaves the width at most 8) and found (by climbing); with a cap FAMILY-JOBS-NUMBER-LIMIT-CAP.jobs, CAP the most boards.
 """
+import collections
 import ctypes
+import functools
+import math
 import pathlib
 import random
 import sys
 
 SIZES = (8, 16, 32, 48, 64)
+CAPPED_SIZES = (16, 32, 64)
 WORK, TABLE = (ctypes.c_uint8 * 65536)(), (ctypes.c_uint8 * 1222)()
+
+
+def parts(name):
+    """Family, jobs, number, limit and cap (nothing without one) of a file's name."""
+    family, n, number, limit, *cap = name.split("-")
+    return family, int(n), number, limit, int(cap[0]) if cap else None
 
 
 def field(tag, value):
     return bytes((tag, len(value) & 255, len(value) >> 8)) + bytes(value)
 
 
-def job_file(n, needs, limit):
-    jobs = b"".join(field(3, (37 * i % 3000 - 1500).to_bytes(2, "little", signed=True) + b"j%d" % (i + 1)) for i in range(n))
-    return field(1, (1,)) + field(2, (limit,)) + jobs + b"".join(field(4, (g + 1, k + 1)) for g, k in sorted(needs))
+@functools.cache
+def job_fields(n):
+    return b"".join(field(3, (37 * i % 3000 - 1500).to_bytes(2, "little", signed=True) + b"j%d" % (i + 1)) for i in range(n))
+
+
+def job_file(n, needs, limit, cap=None):
+    boards = field(9, (cap,)) if cap else b""
+    return field(1, (1,)) + field(2, (limit,)) + boards + job_fields(n) + b"".join(bytes((4, 2, 0, g + 1, k + 1)) for g, k in sorted(needs))
+
+
+class Jobs(ctypes.Structure):
+    """As in baseline.h."""
+    _fields_ = [("tables", ctypes.c_uint64 * 260)]
+    _fields_ += [(name, ctypes.c_uint) for name in ("jobs", "boards", "limit", "least", "width", "cap")]
+    _fields_ += [("offsets", ctypes.c_uint16 * 64)]
+
+
+# slots, or minus the number of the refusal; states opened, sets tried, the most sets tried in one state
+Planned = collections.namedtuple("Planned", "slots opened tried most")
 
 
 class Planner:
-    """The baseline, with the work that it did in its last call."""
+    """The baseline."""
 
     def __init__(self, library):
         self.lib = ctypes.CDLL(library)
         self.lib.baseline_plan.restype = ctypes.c_uint32
-        self.opened = ctypes.c_uint64.in_dll(self.lib, "baseline_opened")
-        self.tried = ctypes.c_uint64.in_dll(self.lib, "baseline_tried")
+        self.work = [ctypes.c_uint64.in_dll(self.lib, f"baseline_{what}") for what in ("opened", "tried", "most")]
 
-    def plan(self, n, needs, limit):
-        """Slots, or minus the number of the refusal; and states opened, sets tried."""
-        data = job_file(n, needs, limit)
-        self.opened.value = self.tried.value = 0
+    def plan(self, n, needs, limit, cap=None):
+        data = job_file(n, needs, limit, cap)
+        for counter in self.work:
+            counter.value = 0
         size = ctypes.c_size_t
         answer = self.lib.baseline_plan(data, size(len(data)), WORK, size(65536), TABLE, size(1222))
-        return (TABLE[4] if answer < 65536 else 65536 - answer), self.opened.value, self.tried.value
+        return Planned(TABLE[4] if answer < 65536 else 65536 - answer, *(counter.value for counter in self.work))
 
-    def limits(self, n, needs):
+    def width(self, n, needs, limit):
+        """The width; infinite where the needs have a circle."""
+        data, jobs = job_file(n, needs, limit), Jobs()
+        return math.inf if self.lib.baseline_read(data, ctypes.c_size_t(len(data)), ctypes.byref(jobs)) == 11 else jobs.width
+
+    def limits(self, n, needs, cap=None):
         """The optimum and the loosest limit; nothing where the optimum's width is above 8 or the optimum above 64."""
         loose = 0
         for limit in range(1, 65):
-            if self.plan(n, needs, limit)[0] in (-11, -12):
+            if self.width(n, needs, limit) > 8:
                 break
             loose = limit
-        slots = self.plan(n, needs, loose)[0] if loose else 0
+        slots = self.plan(n, needs, loose, cap).slots if loose else 0
         return (slots, loose) if slots > 0 else None
 
 
@@ -137,24 +167,42 @@ FAMILIES = {
 }
 
 
-def families(planner, folder, each):
+def family_graphs(planner, each):
+    """The first graphs of each family and size that have limits: {(family, jobs): [(needs, optimum, loosest limit)]}."""
+    graphs = {}
     for family, make in FAMILIES.items():
         for n in SIZES:
-            rng, found = random.Random(f"{family} {n}"), 0
+            rng, found = random.Random(f"{family} {n}"), graphs.setdefault((family, n), [])
             for _ in range(4000):
                 needs = renumbered(n, make(n, rng), rng)
                 limits = planner.limits(n, needs)
-                if not limits:
-                    continue
-                best, loose = limits
-                for name, limit in (("tight", best), ("below", best - 1), ("loose", loose)):
-                    if 0 < limit and not (name == "loose" and loose == best):
-                        (folder / f"{family}-{n:02}-{found}-{name}.jobs").write_bytes(job_file(n, needs, limit))
-                found += 1
-                if found == each:
+                if limits:
+                    found.append((needs, *limits))
+                if len(found) == each:
                     break
             else:
-                print(f"{family} {n}: {found} of {each} found", file=sys.stderr)
+                print(f"{family} {n}: {len(found)} of {each} found", file=sys.stderr)
+    return graphs
+
+
+def families(folder, graphs):
+    for (family, n), found in graphs.items():
+        for number, (needs, best, loose) in enumerate(found):
+            for name, limit in (("tight", best), ("below", best - 1), ("loose", loose)):
+                if 0 < limit and not (name == "loose" and loose == best):
+                    (folder / f"{family}-{n:02}-{number}-{name}.jobs").write_bytes(job_file(n, needs, limit))
+
+
+def capped_families(planner, folder, graphs, caps):
+    """Of each family and size the first graph whose width, one slot below the optimum with the cap too, is above the cap."""
+    for (family, n), found in graphs.items():
+        for cap in caps if n in CAPPED_SIZES else ():
+            for number, (needs, _, _) in enumerate(found):
+                limits = planner.limits(n, needs, cap)
+                if limits and planner.width(n, needs, limits[0] - 1) > cap:
+                    for name, limit in (("tight", limits[0]), ("below", limits[0] - 1)):
+                        (folder / f"{family}-{n:02}-{number}-{name}-{cap}.jobs").write_bytes(job_file(n, needs, limit, cap))
+                    break
 
 
 def mutated(n, needs, limit, rng):
@@ -178,8 +226,8 @@ def mutated(n, needs, limit, rng):
 def climb(planner, n, rng, steps, start):
     """Needs and a limit with as much work for the search as hill climbing finds."""
     def work(needs, limit):
-        slots, opened, tried = planner.plan(n, needs, limit)
-        return 40 * opened + 12 * tried if slots > 0 or slots == -13 else -1
+        done = planner.plan(n, needs, limit)
+        return 40 * done.opened + 12 * done.tried if done.slots > 0 or done.slots == -13 else -1
 
     needs, limit = start
     most = work(needs, limit)
@@ -204,14 +252,28 @@ def hard(planner, folder, each, steps):
             (folder / f"hard-{n:02}-{number}-found.jobs").write_bytes(job_file(n, needs, limit))
 
 
+def hard_capped(folder, caps):
+    """The files of hardcap.txt with these caps."""
+    for line in (pathlib.Path(__file__).parent / "hardcap.txt").read_text().splitlines():
+        if not line.startswith("#"):
+            words = line.split()
+            cap, n, limit = (int(word) for word in words[:3])
+            needs = {tuple(int(i) - 1 for i in word.split("-")) for word in words[3:]}
+            if cap in caps:
+                (folder / f"hardcap-{n}-0-found-{cap}.jobs").write_bytes(job_file(n, needs, limit, cap))
+
+
 def main():
     library, folder, size = sys.argv[1:]
     folder = pathlib.Path(folder)
     folder.mkdir(parents=True, exist_ok=True)
     planner = Planner(library)
     (folder / "deep-64-0-tight.jobs").write_bytes(job_file(64, {(i, i + 1) for i in range(63)}, 64))  # the longest way down
-    families(planner, folder, 4 if size == "full" else 1)
+    graphs = family_graphs(planner, 4 if size == "full" else 1)
+    families(folder, graphs)
+    capped_families(planner, folder, graphs, (2, 3) if size == "full" else (2,))
     hard(planner, folder, 3 if size == "full" else 1, 20000 if size == "full" else 3000)
+    hard_capped(folder, range(1, 8) if size == "full" else (2,))
 
 
 if __name__ == "__main__":

@@ -1,4 +1,4 @@
-"""measure.py counts|times|stack|solvers FOLDER: measures over FOLDER/files, results to FOLDER/WHAT.json."""
+"""measure.py counts|before|times|stack|solvers FOLDER: measures over FOLDER/files, results to FOLDER/WHAT.json."""
 import glob
 import json
 import os
@@ -8,10 +8,11 @@ import shutil
 import subprocess
 import sys
 
+import generate
 import solvers
 
 COMPILERS = ("g++", "clang++")
-CAP = 10  # seconds by the clock for one run of a solver
+TIMEOUT = 10  # seconds by the clock for one run of a solver
 SHORT = 0.2  # CPU seconds: below, a run is one of RUNS, and the least counts
 RUNS = 7
 
@@ -24,23 +25,30 @@ def name_of(path):
     return pathlib.Path(path).stem
 
 
+def counted(folder, drive, paths):
+    """Instructions of each call, and how many of them are in memset: {file: {call: [all, memset]}}."""
+    dumps = f"{folder}/dumps"
+    shutil.rmtree(dumps, ignore_errors=True)
+    os.mkdir(dumps)
+    command = ["valgrind", "--tool=callgrind", "--compress-strings=no", f"--callgrind-out-file={dumps}/d"]
+    subprocess.run(command + [f"{folder}/{drive}", "count"] + paths, check=True, stderr=subprocess.DEVNULL)
+    rows = {}
+    for path in glob.glob(f"{dumps}/d.*"):
+        text = open(path).read()
+        label = re.search(r"^desc: Trigger: Client Request: (\S+) (\S+)$", text, re.M)
+        if label:
+            rows.setdefault(name_of(label.group(1)), {})[label.group(2)] = own_costs(text)
+    return rows
+
+
 def counts(folder):
-    """Instructions of each call, and how many of them are in memset: {compiler: {file: {call: [all, memset]}}}."""
-    result = {}
-    for compiler in COMPILERS:
-        dumps = f"{folder}/dumps"
-        shutil.rmtree(dumps, ignore_errors=True)
-        os.mkdir(dumps)
-        command = ["valgrind", "--tool=callgrind", "--compress-strings=no", f"--callgrind-out-file={dumps}/d"]
-        command += [f"{folder}/drive-{compiler}", "count"] + files(folder)
-        subprocess.run(command, check=True, stderr=subprocess.DEVNULL)
-        rows = result[compiler] = {}
-        for path in glob.glob(f"{dumps}/d.*"):
-            text = open(path).read()
-            label = re.search(r"^desc: Trigger: Client Request: (\S+) (\S+)$", text, re.M)
-            if label:
-                rows.setdefault(name_of(label.group(1)), {})[label.group(2)] = own_costs(text)
-    return result
+    """The instructions by the baseline's compiler."""
+    return {compiler: counted(folder, f"drive-{compiler}", files(folder)) for compiler in COMPILERS}
+
+
+def before(folder):
+    """The instructions with the archive before, on the files that it can read: those without a cap."""
+    return counted(folder, "drive-before", [path for path in files(folder) if not generate.parts(name_of(path))[-1]])
 
 
 def own_costs(dump):
@@ -79,8 +87,8 @@ def process(folder, path):
 def timed(folder, path, name, problem):
     """The solver's answer, its CPU seconds, and those of the product's process right after it: each some times in a row, so that both
     find their pages and caches as they left them."""
-    answer, seconds = solvers.run(name, problem, CAP)
-    others = [seconds] + [solvers.run(name, problem, CAP)[1] for _ in range(RUNS - 1 if seconds < SHORT else 0)]
+    answer, seconds = solvers.run(name, problem, TIMEOUT)
+    others = [seconds] + [solvers.run(name, problem, TIMEOUT)[1] for _ in range(RUNS - 1 if seconds < SHORT else 0)]
     return answer, min(others), min(process(folder, path) for _ in range(RUNS))
 
 
@@ -112,14 +120,15 @@ def product_answer(folder, path):
 
 
 def solver_files(folder):
-    """The first of each kind, all of 64 jobs, and the hard ones."""
-    return [f for f in files(folder) if re.match(r"hard|deep|\w+-64-|\w+-\d+-0-", name_of(f))]
+    """The first of each kind, all of 64 jobs, and the hard ones; with a cap those at the optimum, and the hard ones."""
+    capped = r"hardcap|\w+-\d+-\d+-tight-\d"
+    return [f for f in files(folder) if re.match(capped if generate.parts(name_of(f))[-1] else r"hard|deep|\w+-64-|\w+-\d+-0-", name_of(f))]
 
 
 def run_solvers(folder):
     """CPU seconds of each solver, start-up taken and whole, every answer compared: {"startup": {}, "runs": {file: {solver: [seconds, answered, product]}}}."""
-    trivial = (1, [], 1)
-    startup = {name: min(solvers.run(name, trivial, CAP)[1] for _ in range(RUNS)) for name in solvers.SOLVERS}
+    trivial = (1, [], 1, None)
+    startup = {name: min(solvers.run(name, trivial, TIMEOUT)[1] for _ in range(RUNS)) for name in solvers.SOLVERS}
     runs = {}
     for path in solver_files(folder):
         problem = solvers.parse(open(path, "rb").read())
@@ -127,7 +136,7 @@ def run_solvers(folder):
         row = runs[name_of(path)] = {}
         for name, solver in solvers.SOLVERS.items():
             preferred = solver[-1]
-            if preferred and not re.match(r"hard|\w+-\d+-0-tight", name_of(path)):
+            if preferred and not re.match(r"hard-|\w+-\d+-0-tight", name_of(path)):
                 continue  # the list is asked on fewer files
             answer, seconds, mine = timed(folder, path, name, problem)
             if answer and answer[0] != slots:
@@ -141,7 +150,7 @@ def run_solvers(folder):
 def main():
     what, folder = sys.argv[1:]
     os.nice(10)  # of this process, so that no start of `nice` is counted in a solver's time
-    result = {"counts": counts, "times": times, "stack": stack, "solvers": run_solvers}[what](folder)
+    result = {"counts": counts, "before": before, "times": times, "stack": stack, "solvers": run_solvers}[what](folder)
     pathlib.Path(f"{folder}/{what}.json").write_text(json.dumps(result))
 
 

@@ -8,13 +8,9 @@ import sys
 
 import generate
 import solvers
+from generate import parts
 
 FAMILIES = list(generate.FAMILIES)
-
-
-def parts(name):
-    family, n, number, limit = name.split("-")
-    return family, int(n), number, limit
 
 
 def table(head, rows):
@@ -31,9 +27,14 @@ class Data:
         self.folder = folder
         for what in ("counts", "times", "stack", "solvers"):
             setattr(self, what, json.loads(pathlib.Path(f"{folder}/{what}.json").read_text()))
+        self.planner = generate.Planner(f"{folder}/count.so")
+        before = pathlib.Path(f"{folder}/before.json")
+        self.before = json.loads(before.read_text()) if before.exists() else None
         self.product = self.counts["g++"]
         # files that search: some length is tried, so the bitmap is cleared
-        self.searched = [f for f in sorted(self.product) if self.lengths(f) > 0]
+        searched = [f for f in sorted(self.product) if self.lengths(f) > 0]
+        self.searched, self.capped = [f for f in searched if not parts(f)[4]], [f for f in searched if parts(f)[4]]
+        self.asked, self.asked_capped = [f for f in self.solvers["runs"] if not parts(f)[4]], [f for f in self.solvers["runs"] if parts(f)[4]]
 
     def lengths(self, f):
         """Bytes that the search clears beyond its own arrays, as instructions."""
@@ -45,6 +46,13 @@ class Data:
 
     def of(self, family, n=None):
         return [f for f in self.searched if parts(f)[0] == family and n in (None, parts(f)[1])]
+
+    def capped_of(self, family, cap):
+        return [f for f in self.capped if parts(f)[0] == family and parts(f)[4] == cap]
+
+    def capped_kinds(self):
+        """The families and caps of the capped files, without the hard ones."""
+        return sorted({(parts(f)[4], FAMILIES.index(parts(f)[0])) for f in self.capped if parts(f)[0] in FAMILIES})
 
     def ratio(self, files, call, against):
         return sum(self.product[f][call][0] for f in files) / sum(self.base(f, against) for f in files) if files else None
@@ -88,16 +96,71 @@ def whole_cells(d, files):
     return [len(files), f"{statistics.median(mine):.1f} ({min(mine):.1f} to {max(mine):.1f})", f"{own:.1f}", f"{both:.2f}", met]
 
 
+def planned(d, f):
+    """The file's limit, the answer, and the baseline's work for it."""
+    jobs, needs, limit, cap = solvers.parse(pathlib.Path(f"{d.folder}/files/{f}.jobs").read_bytes())
+    work = d.planner.plan(jobs, {(g - 1, k - 1) for g, k in needs}, limit, cap)
+    return limit, f"{work.slots} slots" if work.slots > 0 else f"refused {-work.slots}", work
+
+
 def hard_table(d):
-    planner = generate.Planner(f"{d.folder}/count.so")
     rows = []
     for f in d.of("hard"):
-        jobs, needs, limit = solvers.parse(pathlib.Path(f"{d.folder}/files/{f}.jobs").read_bytes())
-        slots, opened, tried = planner.plan(jobs, {(g - 1, k - 1) for g, k in needs}, limit)
+        limit, answer, work = planned(d, f)
         search, base = d.product[f]["search"][0], d.base(f, "baseline-search")
-        answer = f"{slots} slots" if slots > 0 else f"refused {-slots}"
-        rows.append([f, limit, answer, opened, tried, count(search), count(base), f"{search / base:.3f}", f"{d.product[f]['whole'][0] / base:.2f}"])
+        rows.append([f, limit, answer, work.opened, work.tried, count(search), count(base), f"{search / base:.3f}", f"{d.product[f]['whole'][0] / base:.2f}"])
     return table(["file", "limit", "answer", "states opened", "sets tried", "product's search", "baseline's", "ratio", "whole / baseline's search"], rows)
+
+
+def capped_table(d):
+    rows = []
+    for cap, family in d.capped_kinds():
+        files = d.capped_of(FAMILIES[family], cap)
+        each = [d.product[f]["search"][0] / d.base(f, "baseline-search") for f in files]
+        row = [FAMILIES[family], cap, len(files), count(sum(d.product[f]["search"][0] for f in files)), count(sum(d.base(f, "baseline-search") for f in files))]
+        rows.append(row + [f"{d.ratio(files, 'search', 'baseline-search'):.3f}", f"{min(each):.3f} to {max(each):.3f}", f"{sum(x <= 1 for x in each)} of {len(each)}"])
+    return table(["family", "cap", "files that search", "product", "baseline", "ratio of the sums", "ratios of single files", "files at most 1"], rows)
+
+
+def hard_capped(d):
+    return sorted((f for f in d.capped if parts(f)[0] == "hardcap"), key=lambda f: (parts(f)[4], parts(f)[1]))
+
+
+def hard_capped_table(d):
+    rows = []
+    for f in hard_capped(d):
+        limit, answer, work = planned(d, f)
+        search, base = d.product[f]["search"][0], d.base(f, "baseline-search")
+        rows.append([f, parts(f)[4], limit, answer, count(work.opened), count(work.tried), work.most, count(search), count(base), f"{search / base:.3f}"])
+    return table(["file", "cap", "limit", "answer", "states opened", "sets looked at", "most in one state", "product's search", "baseline's", "ratio"], rows)
+
+
+def turns(members, cap):
+    """How many sets a full slot with so many candidates looks at."""
+    whole = (1 << members) - 1
+
+    def upper(tried):
+        while tried.bit_count() > cap:
+            tried &= tried - 1
+        return tried
+
+    tried, looked = upper(whole), 1
+    while tried:
+        below = (tried - 1) & whole
+        tried, looked = tried & (tried - 1) if below.bit_count() < cap else upper(below), looked + 1
+    return looked
+
+
+def capped_worst(d):
+    worst = max(hard_capped(d), key=lambda f: d.product[f]["search"][0])
+    looked = {cap: turns(8, cap) for cap in range(1, 8)}
+    most = max(looked, key=looked.get)
+    return (
+        f"The worst found is {worst}: {count(d.product[worst]['search'][0])} instructions of the search, {count(d.product[worst]['whole'][0])} of the whole call"
+        f" ({1000 * d.times[worst][0]:.2f} ms).\n"
+        f"A full slot looks at no more than {looked[most]} sets, with cap {most} and eight candidates, the most that a slot has"
+        f" ({', '.join(f'cap {cap}: {n}' for cap, n in looked.items() if cap != most)}); one that is not full, as without a cap, at the 256 sets of eight tied jobs."
+    )
 
 
 def solver_ratios(d, name, files, whole):
@@ -115,14 +178,27 @@ def solver_table(d):
     runs = d.solvers["runs"]
     rows = []
     for name in solvers.SOLVERS:
-        files = [f for f in runs if parts(f)[1] == 64 and name in runs[f]]
-        every = [f for f in runs if name in runs[f]]
+        files = [f for f in d.asked if parts(f)[1] == 64 and name in runs[f]]
+        every = [f for f in d.asked if name in runs[f]]
         net, whole = solver_ratios(d, name, files, False), solver_ratios(d, name, every, True)
         open_ends = sum(not runs[f][name][1] for f in every)
         cpu = statistics.median(runs[f][name][0] for f in files)
         row = [name, len(every), open_ends, f"{1000 * d.solvers['startup'][name]:.1f}", f"{1000 * cpu:.1f}"]
         rows.append(row + [f"{statistics.median(net):,.0f}", f"{min(whole):.1f}", f"{sum(x >= 10 for x in whole)} of {len(whole)}"])
-    return table(["solver", "files", "no answer within the cap", "start-up, ms", "64 jobs: median CPU, ms", "64 jobs: median ratio net of start-up", "least ratio, start-up included", "files at least 10"], rows)
+    return table(["solver", "files", "no answer in time", "start-up, ms", "64 jobs: median CPU, ms", "64 jobs: median ratio net of start-up", "least ratio, start-up included", "files at least 10"], rows)
+
+
+def capped_solver_table(d):
+    runs = d.solvers["runs"]
+    rows = []
+    for what, hard in (("families", False), ("hard", True)):
+        for name in solvers.SOLVERS:
+            files = [f for f in d.asked_capped if (parts(f)[0] == "hardcap") == hard and name in runs[f]]
+            if files:
+                net, whole = solver_ratios(d, name, files, False), solver_ratios(d, name, files, True)
+                row = [what, name, len(files), sum(not runs[f][name][1] for f in files), f"{1000 * statistics.median(runs[f][name][0] for f in files):.1f}"]
+                rows.append(row + [f"{statistics.median(net):,.0f}", f"{min(whole):.1f}", f"{sum(x >= 10 for x in whole)} of {len(whole)}"])
+    return table(["files", "solver", "number", "no answer in time", "median CPU, ms", "median ratio net of start-up", "least ratio, start-up included", "files at least 10"], rows)
 
 
 def stack_table(d):
@@ -148,19 +224,25 @@ def goal_table(d):
     easy_hard = sum(d.product[f]["search"][0] <= base(f) for f in hard)
     twice = [f for f in d.searched if d.product[f]["whole"][0] <= 2 * base(f)]
     asked = [name for name in solvers.SOLVERS if not solvers.SOLVERS[name][-1]]
-    wide = [f for f in d.solvers["runs"] if parts(f)[1] == 64]
+    wide = [f for f in d.asked if parts(f)[1] == 64]
     medians = {name: statistics.median(solver_ratios(d, name, wide, False)) for name in asked}
-    least = {name: min(solver_ratios(d, name, d.solvers["runs"], True)) for name in asked}
+    least = {name: min(solver_ratios(d, name, d.asked, True)) for name in asked}
     level, around = d.stack["frames"]["explore::explore"], d.stack["frames"]["product_search"]
+    caps = [d.ratio(d.capped_of(FAMILIES[family], cap), "search", "baseline-search") for cap, family in d.capped_kinds()]
+    hard_caps = [d.product[f]["search"][0] / base(f) for f in hard_capped(d)]
     verdict = lambda ok: "met" if ok else "NOT met"
     rows = [
         ["search: no more than the baseline's, each family's sum", f"{sum(x <= 1 for x in sums.values())} of {len(sums)} families; single files {single} of {len(families)}", verdict(max(sums.values()) <= 1)],
         ["search: no more than the baseline's, each hard file", f"{easy_hard} of {len(hard)}", verdict(easy_hard == len(hard))],
+        ["search with a cap: no more than the baseline's, each family's sum and each hard file", f"{sum(x <= 1 for x in caps)} of {len(caps)} sums; hard files {sum(x <= 1 for x in hard_caps)} of {len(hard_caps)}", verdict(max(caps + hard_caps) <= 1)],
         ["whole call: at most twice the baseline's search", f"{len(twice)} of {len(d.searched)} files", verdict(len(twice) == len(d.searched))],
         ["200 times less CPU, net, median of 64 jobs", ", ".join(f"{k} {v:,.0f}" for k, v in medians.items()), verdict(min(medians.values()) >= 200)],
         ["10 times less CPU, start-up included, every file", "least: " + ", ".join(f"{k} {v:.1f}" for k, v in least.items()), verdict(min(least.values()) >= 10)],
         ["stack of the search at most 16 KiB", f"{count(65 * level + around)} bytes", verdict(65 * level + around <= 16384)],
     ]
+    if d.before:
+        grown = [d.product[f]["whole"][0] / row["whole"][0] for f, row in d.before.items()]
+        rows.append(["whole call: no file without tag 9 costs more than 2 per cent more than before", f"{len(grown)} files: median {statistics.median(grown):.3f}, least {min(grown):.3f}, greatest {max(grown):.3f}", verdict(max(grown) <= 1.02)])
     return table(["goal", "measured", ""], rows)
 
 
@@ -187,7 +269,7 @@ def plot(d, path):
     rows = {"product": {}, "CBC": {}, "GLPK": {}, "clingo": {}, "Gecode": {}}
     for name, by in rows.items():
         for n in generate.SIZES:
-            files = [f for f in d.solvers["runs"] if parts(f)[0] in FAMILIES and parts(f)[1] == n]
+            files = [f for f in d.asked if parts(f)[0] in FAMILIES and parts(f)[1] == n]
             net = lambda f: d.times[f][0] if name == "product" else d.solvers["runs"][f][name][0] - d.solvers["startup"][name]
             by[n] = max(1e-6, statistics.median(net(f) for f in files))
     high_up = lambda s: 330 - 280 * (math.log10(s) + 6) / 6.5
@@ -213,7 +295,8 @@ def main():
     d = Data(folder)
     tables = {
         "goals": goal_table(d), "search": search_table(d), "search-grid": grid(d, "search", "baseline-search"), "hard": hard_table(d),
-        "whole": whole_table(d), "solvers": solver_table(d), "stack": stack_table(d),
+        "whole": whole_table(d), "solvers": solver_table(d), "capped": capped_table(d), "hardcap": hard_capped_table(d), "capped-worst": capped_worst(d),
+        "capped-solvers": capped_solver_table(d), "stack": stack_table(d),
     }
     page = docs / "BENCHMARKS.md"
     text = page.read_text()

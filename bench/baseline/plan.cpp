@@ -9,13 +9,13 @@ inline unsigned low(uint64_t set) { return __builtin_ctzll(set); }
 inline unsigned high(uint64_t set) { return 63 - __builtin_clzll(set); }
 inline uint64_t bit(unsigned i) { return uint64_t(1) << i; }
 
-// Questions 3 to 10.
+// Questions 3 to 10, and 21.
 unsigned read_fields(const uint8_t *file, size_t size, Jobs &out) {
-    static const struct { uint16_t least, greatest; } LENGTHS[] = {{1, 1}, {1, 1}, {3, 14}, {2, 2}, {0, 65535}};
+    static const struct { uint16_t least, greatest; } LENGTHS[] = {{1, 1}, {1, 1}, {3, 14}, {2, 2}, {0, 65535}, {1, 1}};
     Tables &t = out.t;
     memset(t.givers, 0, sizeof t.givers);
     memset(t.takers, 0, sizeof t.takers);
-    out.jobs = 0;
+    out.jobs = out.boards = 0;
     size_t fields = 0;
     for (size_t at = 0; at < size; ++fields) {
         if (size - at < 3)
@@ -23,11 +23,12 @@ unsigned read_fields(const uint8_t *file, size_t size, Jobs &out) {
         const unsigned tag = file[at], length = file[at + 1] | file[at + 2] << 8;
         if (size - at - 3 < length)
             return 3;
-        if (tag < 1 || tag > 5)
+        if (tag < 1 || (tag > 5 && tag != 9))
             return 4;
         if (fields < 2 ? tag != fields + 1 : tag < 3)
             return 5;
-        if (length < LENGTHS[tag - 1].least || length > LENGTHS[tag - 1].greatest)
+        const unsigned row = tag == 9 ? 5 : tag - 1;
+        if (length < LENGTHS[row].least || length > LENGTHS[row].greatest)
             return 6;
         const uint8_t *value = file + at + 3;
         switch (tag) {
@@ -56,10 +57,19 @@ unsigned read_fields(const uint8_t *file, size_t size, Jobs &out) {
                 return 9;
             t.givers[64 - taker] |= bit(64 - giver);
             t.takers[64 - giver] |= bit(64 - taker);
+            break;
         }
+        case 9:
+            if (value[0] < 1 || value[0] > 8)
+                return 6;
+            if (out.boards)
+                return 21;
+            out.boards = value[0];
         }
         at += 3 + length;
     }
+    if (!out.boards)
+        out.boards = 8;
     return fields < 2 || out.jobs == 0 ? 10 : 0;
 }
 
@@ -76,7 +86,7 @@ inline unsigned level_behind(const uint8_t *level, uint64_t before) {
     return next;
 }
 
-// Questions 11 and 12, with the tables of windows.
+// Questions 11 and 12, with the tables of windows and what the search gets.
 unsigned find_windows(Jobs &out) {
     Tables &t = out.t;
     const uint64_t all = ~uint64_t(0) << (64 - out.jobs);
@@ -115,6 +125,8 @@ unsigned find_windows(Jobs &out) {
     out.width = 0;
     for (unsigned s = 1; s <= out.limit; ++s)
         out.width = std::max<unsigned>(out.width, __builtin_popcountll(t.released[s] & ~t.followed[out.limit + 1 - s]));
+    out.cap = out.width <= out.boards ? NO_CAP : out.boards;
+    out.least = std::max(out.least, (out.jobs + out.cap - 1) / out.cap);
     return out.width > 8 ? 12 : 0;
 }
 
@@ -171,7 +183,7 @@ uint32_t plan_file(const uint8_t *file, size_t size, uint8_t *work, uint8_t *tab
     if (unsigned number = baseline_read(file, size, &jobs))
         return 65536 + number;
     Found found;
-    baseline_search(&jobs.t, jobs.least, jobs.limit, work, &found);
+    baseline_search(&jobs.t, jobs.least, jobs.limit, jobs.cap, work, &found);
     if (found.slots == 0)
         return 65536 + 13;
     uint8_t boards[64];

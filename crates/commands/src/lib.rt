@@ -13,6 +13,7 @@ use libc::STDERR_FILENO;
 use libc::STDIN_FILENO;
 use libc::STDOUT_FILENO;
 ghost use mathlib.Core.Path.{_≡_};
+ghost use mathlib.Core.Logic.{_⊎_};
 ghost use Prim.Native.Nat.{_≤_};
 ghost use Rattle.gate.specs.Numbers.{plannedNumber, verdictNumber};
 
@@ -49,7 +50,7 @@ fn print_planned(p: Planned, table: &[u8]) -> u8
 
 // Plans a job file that is read from standard input, and prints the table, or that the file is refused.
 pub fn plan() -> u8
-    ensures { λ r. ⌜ r ≤ 21 ⌝ }
+    ensures { λ r. ⌜ (r ≤ 13) ⊎ (r ≡ 21) ⌝ }
 {
     let mut file = [0u8; 16385];
     let mut work = io::large_buffer();
@@ -70,7 +71,7 @@ fn save(p: Planned, table: &[u8]) -> bool {
 // Plans the job file, argument 1; writes the table file, argument 2, and prints the table, or that the job file is refused. A refusal
 // writes no file.
 pub fn plan_table() -> u8
-    ensures { λ r. ⌜ r ≤ 21 ⌝ }
+    ensures { λ r. ⌜ (r ≤ 13) ⊎ (r ≡ 21) ⌝ }
 {
     if os::arg_count() != 3 {
         io::write_all(STDERR_FILENO, b"usage: plan_table JOB_FILE TABLE_FILE\n");
@@ -106,7 +107,7 @@ fn print_verdict(v: Verdict) -> u8
 
 // Prints whether the table file, argument 2, passes for the job file, argument 1.
 pub fn check_table() -> u8
-    ensures { λ r. ⌜ r ≤ 21 ⌝ }
+    ensures { λ r. ⌜ (r ≤ 18) ⊎ (r ≡ 21) ⌝ }
 {
     if os::arg_count() != 3 {
         io::write_all(STDERR_FILENO, b"usage: check_table JOB_FILE TABLE_FILE\n");

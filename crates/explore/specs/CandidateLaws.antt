@@ -5,20 +5,23 @@ use mathlib.Core.Bool.{Bool, true, false, _&&_, _||_, and-eq-true-iff, or-false,
 use mathlib.Core.List.{List, [], _∷_}
 use Prim.Native.Nat.{ℕ, _+_, _^_, _≤_, _<_}
 use native.Mathlib.Omega.{arith}
+use native.Mathlib.Decide.{decLt}
 use borrow.Author.Tests.{eq-eqb, eqb-true}
 use lib.Dec.{T, leb, eqb}
 use Rattle.rules.specs.Basics.{choose, imp, all, any, count}
 use Rattle.laws.specs.Tests.{T-all, T-any, T-true, by-choice}
 use Rattle.laws.specs.Counting.{count-most}
 use Rattle.jobset.specs.declared.Set.{Set}
-use Rattle.jobset.specs.Sets.{setAt, member, intersection, isSubset, isEmpty, isOne, size, members, Subset}
+use Rattle.jobset.specs.Sets.{setAt, member, intersection, isSubset, isEmpty, isOne, size, nextBelow, nextFit, members, Subset}
+use Rattle.jobset.specs.FallingSubsets.{no-subset-between, next-less, next-subset}
 use Rattle.jobset.specs.Upper.{empty-size, one-size, upper-subset, upper-above}
+use Rattle.jobset.specs.NextFit.{next-fit, next-fit-subset, next-fit-less}
 use Rattle.jobset.specs.Membership.{member-empty, member-with, member-union, in-union}
 use Rattle.jobset.specs.Members.{members-passing, in-members}
 use Rattle.jobset.specs.Size.{size-members}
 use Rattle.jobset.specs.Inclusion.{subset-refl, is-subset}
 use Rattle.explore.specs.declared.Candidates.{Candidates}
-use Rattle.explore.specs.Slot.{Tables, isForced, isTied, sortJob, sortJobs, noCandidates, candidatesOf, seated, suits, served, sized, chosen, allowed, fitted}
+use Rattle.explore.specs.Slot.{Tables, isForced, isTied, sortJob, sortJobs, noCandidates, candidatesOf, withinCap, oneOrFull, served, filled, chosen, allowed, firstTried, nextTried}
 
 -- ---- the candidates
 
@@ -122,17 +125,17 @@ module _ (done last : Set) where
 pub size-few : (s : Set) → s .bits < 2 ^ 64 → size s ≤ 64
 size-few s h = rw (size-members s h, members-passing s) (unfold count in count-most (member s) 64)
 
--- ---- seated: what is there was a candidate
+-- ---- withinCap: what is there was a candidate
 
-pub seated-forced : (cap : ℕ) (c : Candidates) (x : ℕ) → member (seated cap c .forced) x ≡ true → member (c .forced) x ≡ true
-unfolding seated
-seated-forced cap c x =
+pub within-cap-forced : (cap : ℕ) (c : Candidates) (x : ℕ) → member (withinCap cap c .forced) x ≡ true → member (c .forced) x ≡ true
+unfolding withinCap
+within-cap-forced cap c x =
     by-choice (λ (d : Candidates). member (d .forced) x ≡ true → member (c .forced) x ≡ true) (leb (size (c .forced) + size (c .tying)) cap)
     (λ _ m. m) (λ _ m. absurd (false≢true (sym (member-empty x) ∙ m)))
 
-pub seated-tied : (cap : ℕ) (c : Candidates) (x : ℕ) → member (seated cap c .tied) x ≡ true → (member (c .forced) x ≡ true) ⊎ (member (c .tied) x ≡ true)
-unfolding seated
-seated-tied cap c x =
+pub within-cap-tied : (cap : ℕ) (c : Candidates) (x : ℕ) → member (withinCap cap c .tied) x ≡ true → (member (c .forced) x ≡ true) ⊎ (member (c .tied) x ≡ true)
+unfolding withinCap
+within-cap-tied cap c x =
     by-choice (λ (d : Candidates). member (d .tied) x ≡ true → (member (c .forced) x ≡ true) ⊎ (member (c .tied) x ≡ true)) (leb (size (c .forced) + size (c .tying)) cap)
     (λ _ m. inr m) (λ _ m. in-union (c .forced) (c .tied) x .0 m)
 
@@ -152,59 +155,88 @@ pub found-open : (givers : List ℕ) (free done last : Set) → candidatesOf giv
 unfolding candidatesOf
 found-open givers free done last = sorted-open givers done last (members free) noCandidates refl
 
--- ---- suits: exactly one, or at most one
+-- ---- oneOrFull: exactly one, or at most one
 
-pub suits-one : (s : Set) → suits false s ≡ isOne s
-unfolding suits isOne choose
-suits-one s = go (isEmpty s) refl
+pub exactly-one : (s : Set) → oneOrFull false s ≡ isOne s
+unfolding oneOrFull isOne choose
+exactly-one s = go (isEmpty s) refl
   where
     go : (b : Bool) → isEmpty s ≡ b → choose b false (isOne s) ≡ isOne s
     go true e = rw e
     go false e = refl
 
-pub suits-few : (s : Set) → suits true s ≡ leb (size s) 1
-unfolding suits choose
-suits-few s = go (isEmpty s) refl
+pub at-most-one : (s : Set) → oneOrFull true s ≡ leb (size s) 1
+unfolding oneOrFull choose
+at-most-one s = go (isEmpty s) refl
   where
     go : (b : Bool) → isEmpty s ≡ b → choose b true (isOne s) ≡ leb (size s) 1
     go true e = let z : size s ≡ 0 = eqb-true (size s) 0 (sym (empty-size s) ∙ e) in rw z refl
     go false e = one-size s e
 
--- ---- served: each tying job has takers that suit in the subset
+-- ---- served: each tying job has one taker in the subset, or at most one
 
 pub served-iff : (takers : List ℕ) (tying : Set) (full : Bool) (subset : Set)
-    → (served takers tying full subset ≡ true) ↔ ((j : ℕ) → j < 64 → member tying j ≡ true → suits full (intersection subset (setAt takers j)) ≡ true)
+    → (served takers tying full subset ≡ true) ↔ ((j : ℕ) → j < 64 → member tying j ≡ true → oneOrFull full (intersection subset (setAt takers j)) ≡ true)
 unfolding served
 served-iff takers tying full subset = (
-  λ h j l m. T-true (suited j) .0 (T-all suited (members tying) .0 (T-true (all suited (members tying)) .1 h) j (in-members tying j .1 (l, m))),
-  λ f. T-true (all suited (members tying)) .0 (T-all suited (members tying) .1 (λ j m. let w = in-members tying j .0 m in T-true (suited j) .1 (f j (w .0) (w .1)))),
+  λ h j l m. T-true (oneTaker j) .0 (T-all oneTaker (members tying) .0 (T-true (all oneTaker (members tying)) .1 h) j (in-members tying j .1 (l, m))),
+  λ f. T-true (all oneTaker (members tying)) .0 (T-all oneTaker (members tying) .1 (λ j m. let w = in-members tying j .0 m in T-true (oneTaker j) .1 (f j (w .0) (w .1)))),
 )
   where
-    suited : ℕ → Bool
-    suited j = suits full (intersection subset (setAt takers j))
+    oneTaker : ℕ → Bool
+    oneTaker j = oneOrFull full (intersection subset (setAt takers j))
 
 -- allowed: a subset of the tied jobs that is chosen
 pub allowed-iff : (T : Tables) (c : Candidates) (subset : Set)
-    → (allowed T c subset ≡ true) ↔ (Subset subset (c .tied) × (sized (c .full) (T .cap) subset ≡ true) × (served (T .takers) (c .tying) (c .full) subset ≡ true))
+    → (allowed T c subset ≡ true) ↔ (Subset subset (c .tied) × (filled (c .full) (T .cap) subset ≡ true) × (served (T .takers) (c .tying) (c .full) subset ≡ true))
 unfolding allowed chosen
 allowed-iff T c subset = (
   λ h.
       let w = and-eq-true-iff (isSubset subset (c .tied)) _ .0 h in
-      let v = and-eq-true-iff (sized (c .full) (T .cap) subset) (served (T .takers) (c .tying) (c .full) subset) .0 (w .1) in
+      let v = and-eq-true-iff (filled (c .full) (T .cap) subset) (served (T .takers) (c .tying) (c .full) subset) .0 (w .1) in
       (is-subset subset (c .tied) .0 (w .0), v .0, v .1),
   λ h.
-      let v = and-eq-true-iff (sized (c .full) (T .cap) subset) (served (T .takers) (c .tying) (c .full) subset) .1 (h .1, h .2) in
+      let v = and-eq-true-iff (filled (c .full) (T .cap) subset) (served (T .takers) (c .tying) (c .full) subset) .1 (h .1, h .2) in
       and-eq-true-iff (isSubset subset (c .tied)) _ .1 (is-subset subset (c .tied) .1 (h .0), v),
 )
 
--- ---- fitted: no set of the right size lies between it and the set
+-- ---- the sets looked at: none of the right size is passed over
 
-pub fitted-subset : (full : Bool) (cap : ℕ) (s : Set) → Subset (fitted full cap s) s
-unfolding fitted choose
-fitted-subset true cap s = upper-subset cap s
-fitted-subset false cap s = subset-refl s
+pub first-subset : (full : Bool) (cap : ℕ) (tied : Set) → Subset (firstTried full cap tied) tied
+unfolding firstTried choose
+first-subset true cap tied = upper-subset cap tied
+first-subset false cap tied = subset-refl tied
 
-pub fitted-above : (full : Bool) (cap : ℕ) (s t : Set) → sized full cap t ≡ true → t .bits ≤ s .bits → t .bits ≤ fitted full cap s .bits
-unfolding fitted sized choose imp
-fitted-above true cap s t e l = upper-above cap s t l (omega (arith, eqb-true (size t) cap e))
-fitted-above false cap s t e l = l
+pub first-above : (full : Bool) (cap : ℕ) (tied t : Set) → filled full cap t ≡ true → t .bits ≤ tied .bits → t .bits ≤ firstTried full cap tied .bits
+unfolding firstTried filled choose imp
+first-above true cap tied t e l = upper-above cap tied t l (omega (arith, eqb-true (size t) cap e))
+first-above false cap tied t e l = l
+
+module _ (full : Bool) (cap : ℕ) (tied subset : Set) where
+  pub next-tried-subset : Subset subset tied → Subset (nextTried full cap tied subset) tied
+  unfolding nextTried choose
+  next-tried-subset w = by-full full
+    where
+      by-full : (b : Bool) → Subset (choose b (nextFit cap subset tied) (nextBelow subset tied)) tied
+      by-full true = next-fit-subset cap subset tied w
+      by-full false = next-subset subset tied
+
+  pub next-tried-less : 0 < subset .bits → nextTried full cap tied subset .bits < subset .bits
+  unfolding nextTried choose
+  next-tried-less p = by-full full
+    where
+      by-full : (b : Bool) → choose b (nextFit cap subset tied) (nextBelow subset tied) .bits < subset .bits
+      by-full true = next-fit-less cap subset tied p
+      by-full false = next-less subset tied p
+
+  pub next-tried-above : subset .bits < 2 ^ 64 → Subset subset tied → (t : Set) → Subset t tied → filled full cap t ≡ true → t .bits < subset .bits → t .bits ≤ nextTried full cap tied subset .bits
+  unfolding nextTried filled choose imp
+  next-tried-above b w t k e l = by-full full e
+    where
+      by-full : (c : Bool) → imp c (eqb (size t) cap) ≡ true → t .bits ≤ choose c (nextFit cap subset tied) (nextBelow subset tied) .bits
+      by-full true h = next-fit cap subset tied t b w k (eqb-true (size t) cap h) l
+      by-full false h = go (decLt (nextBelow subset tied .bits) (t .bits))
+        where
+          go : Dec (nextBelow subset tied .bits < t .bits) → t .bits ≤ nextBelow subset tied .bits
+          go (yes m) = absurd (false≢true (sym (no-subset-between subset tied (t .bits) w m l) ∙ is-subset t tied .1 k))
+          go (no m) = omega arith

@@ -6,7 +6,7 @@ use Prim.Native.Nat.{ℕ, _+_, _<_}
 use lib.Dec.{leb, eqb}
 use Rattle.rules.specs.Basics.{choose, imp, all}
 use Rattle.jobset.specs.declared.Set.{Set}
-use Rattle.jobset.specs.Sets.{setAt, empty, with, union, minus, intersection, isSubset, isEmpty, isOne, size, upper, members}
+use Rattle.jobset.specs.Sets.{setAt, empty, with, union, minus, intersection, isSubset, isEmpty, isOne, size, nextBelow, upper, nextFit, members}
 use Rattle.jobset.specs.Arrays.{giversIn, takersIn, releasedIn, followedIn, released-set, followed-set}
 use Rattle.explore.specs.declared.Candidates.{Candidates}
 
@@ -25,6 +25,10 @@ tables givers takers released followed cap = record { givers = givers; takers = 
 -- the tables that are parts of one array
 abbrev pub tablesIn : ℕ → List ℕ → Tables
 tablesIn cap sets = tables (giversIn sets) (takersIn sets) (releasedIn sets) (followedIn sets) cap
+
+-- a cap that no slot meets: there are at most 64 forced and 64 tying jobs
+abbrev pub noCap : ℕ
+noCap = 128
 
 -- ---- the windows, at a slot with `left` slots left, itself among them
 
@@ -72,40 +76,43 @@ unfoldable pub candidatesOf : List ℕ → Set → Set → Set → Candidates
 candidatesOf givers free done last = sortJobs givers done last noCandidates (members free)
 
 -- all that is forced with one taker for each tying job is no more than the slot takes; or the slot is full, and any cap of both are tried
-unfoldable pub seated : ℕ → Candidates → Candidates
-seated cap c = choose (leb (size (c .forced) + size (c .tying)) cap) c (record { forced = empty; tied = union (c .forced) (c .tied); tying = c .tying; full = true })
+unfoldable pub withinCap : ℕ → Candidates → Candidates
+withinCap cap c = choose (leb (size (c .forced) + size (c .tying)) cap) c (record { forced = empty; tied = union (c .forced) (c .tied); tying = c .tying; full = true })
 
--- the candidates of a slot, and those seated
+-- the candidates of a slot, and those withinCap
 unfoldable pub candidatesIn : Tables → ℕ → ℕ → Set → Set → Candidates
 candidatesIn T left slot done last = candidatesOf (T .givers) (minus (windowOf (T .released) (T .followed) left slot) done) done last
 
 unfoldable pub candidatesAt : Tables → ℕ → ℕ → Set → Set → Candidates
-candidatesAt T left slot done last = seated (T .cap) (candidatesIn T left slot done last)
+candidatesAt T left slot done last = withinCap (T .cap) (candidatesIn T left slot done last)
 
 -- ---- what may run in the slot: the forced jobs and an allowed subset of the tied ones
 
 -- just one job is there; in a full slot it may be none
-unfoldable pub suits : Bool → Set → Bool
-suits full near = choose (isEmpty near) full (isOne near)
+unfoldable pub oneOrFull : Bool → Set → Bool
+oneOrFull full near = choose (isEmpty near) full (isOne near)
 
 -- so many takers has each tying job in the subset
 unfoldable pub served : List ℕ → Set → Bool → Set → Bool
-served takers tying full subset = all (λ i. suits full (intersection subset (setAt takers i))) (members tying)
+served takers tying full subset = all (λ i. oneOrFull full (intersection subset (setAt takers i))) (members tying)
 
 -- a full slot gets as many jobs as it takes
-unfoldable pub sized : Bool → ℕ → Set → Bool
-sized full cap subset = imp full (eqb (size subset) cap)
+unfoldable pub filled : Bool → ℕ → Set → Bool
+filled full cap subset = imp full (eqb (size subset) cap)
 
 unfoldable pub chosen : List ℕ → Set → Bool → ℕ → Set → Bool
-chosen takers tying full cap subset = sized full cap subset && served takers tying full subset
+chosen takers tying full cap subset = filled full cap subset && served takers tying full subset
 
 -- such a subset of the tied jobs
 unfoldable pub allowed : Tables → Candidates → Set → Bool
 allowed T c subset = isSubset subset (c .tied) && chosen (T .takers) (c .tying) (c .full) (T .cap) subset
 
--- where the slot is full, no set with more jobs than it takes need be looked at
-unfoldable pub fitted : Bool → ℕ → Set → Set
-fitted full cap subset = choose full (upper cap subset) subset
+-- where the slot is full, no set with more jobs than it takes need be looked at: the first set, and the one after a subset of the tied jobs
+unfoldable pub firstTried : Bool → ℕ → Set → Set
+firstTried full cap tied = choose full (upper cap tied) tied
+
+unfoldable pub nextTried : Bool → ℕ → Set → Set → Set
+nextTried full cap tied subset = choose full (nextFit cap subset tied) (nextBelow subset tied)
 
 -- the jobs of the slot, for the subset of the tied ones with number n
 unfoldable pub slotSet : Candidates → ℕ → Set

@@ -3,22 +3,20 @@
 use mathlib.Core.Path.{_≡_, refl, sym, ap, ap₂, _∙_}
 use mathlib.Core.Bool.{Bool, true, false, not, true≢false}
 use mathlib.Core.List.{List}
-use Prim.Native.Nat.{ℕ, zero, suc, _+_, _-_, _<_, _≤_}
+use Prim.Native.Nat.{ℕ, zero, suc, _+_, _-_, _^_, _<_, _≤_}
 use native.Mathlib.Numerals.{add-one}
 use native.Mathlib.Omega.{arith}
-use native.Mathlib.Decide.{decLt}
 use borrow.Author.Tests.{eqb-true, eqb-false}
 use lib.ListN.{length}
 use Rattle.rules.specs.Basics.{choose}
 use Rattle.laws.specs.Tests.{by-choice}
 use Rattle.jobset.specs.declared.Set.{Set}
-use Rattle.jobset.specs.Sets.{union, isSubset, isEmpty, nextBelow, Subset}
-use Rattle.jobset.specs.Inclusion.{is-subset, subset-le, subset-trans}
-use Rattle.jobset.specs.FallingSubsets.{no-subset-between, next-less, next-subset}
+use Rattle.jobset.specs.Sets.{union, isSubset, isEmpty, Subset}
+use Rattle.jobset.specs.Inclusion.{is-subset, subset-le}
 use Rattle.bitmap.specs.Marks.{isMarked}
 use Rattle.explore.specs.declared.Candidates.{Candidates}
-use Rattle.explore.specs.Slot.{Tables, dueAt, candidatesAt, chosen, allowed, fitted, slotSet}
-use Rattle.explore.specs.CandidateLaws.{allowed-iff, fitted-subset, fitted-above}
+use Rattle.explore.specs.Slot.{Tables, dueAt, candidatesAt, chosen, allowed, firstTried, nextTried, slotSet}
+use Rattle.explore.specs.CandidateLaws.{allowed-iff, first-subset, first-above, next-tried-subset, next-tried-less, next-tried-above}
 use Rattle.explore.specs.Model.{Plan, noPlan, finished, slotThen, written, isDone, key, Explored, atOnce, hit, missThen, opening, exploreBelow, explored}
 
 -- ---- at a state
@@ -105,17 +103,13 @@ unfoldable pub count : Bool → Set → ℕ
 count more subset = choose more (suc (subset .bits)) 0
 
 -- fewer after each try
-pub count-less : (full : Bool) (cap : ℕ) (subset tied : Set) → count (not (isEmpty subset)) (fitted full cap (nextBelow subset tied)) < count true subset
+pub count-less : (full : Bool) (cap : ℕ) (subset tied : Set) → count (not (isEmpty subset)) (nextTried full cap tied subset) < count true subset
 unfolding count choose isEmpty
 count-less full cap subset tied = go (isEmpty subset) refl
   where
-    next : Set
-    next = nextBelow subset tied
-
-    go : (b : Bool) → isEmpty subset ≡ b → count (not b) (fitted full cap next) < suc (subset .bits)
+    go : (b : Bool) → isEmpty subset ≡ b → count (not b) (nextTried full cap tied subset) < suc (subset .bits)
     go true e = omega arith
-    go false e =
-        omega (arith, subset-le (fitted full cap next) next (fitted-subset full cap next), next-less subset tied (omega (arith, eqb-false (subset .bits) 0 e)))
+    go false e = omega (arith, next-tried-less full cap tied subset (omega (arith, eqb-false (subset .bits) 0 e)))
 
 module _ (T : Tables) (left slot : ℕ) (done : Set) (c : Candidates) where
   -- what follows the subset
@@ -127,7 +121,7 @@ module _ (T : Tables) (left slot : ℕ) (done : Set) (c : Candidates) where
 
   -- the numbers from the next subset down
   abbrev pub nextCount : Set → ℕ
-  nextCount subset = count (not (isEmpty subset)) (fitted (c .full) (T .cap) (nextBelow subset (c .tied)))
+  nextCount subset = count (not (isEmpty subset)) (nextTried (c .full) (T .cap) (c .tied) subset)
 
   -- a subset of the tied jobs is allowed where it is chosen
   pub allowed-chosen : (subset : Set) → Subset subset (c .tied) → allowed T c subset ≡ chosen (T .takers) (c .tying) (c .full) (T .cap) subset
@@ -156,32 +150,23 @@ module _ (T : Tables) (left slot : ℕ) (done : Set) (c : Candidates) where
       not-allowed n a b true e = absurd (omega (arith, h n e b))
       not-allowed n a b false e = refl
 
-  -- the numbers from a set down are those from the fitted one
-  pub from-fitted : (s : Set) (dead : List ℕ) → triesBelow (suc (s .bits)) dead ≡ triesBelow (suc (fitted (c .full) (T .cap) s .bits)) dead
-  from-fitted s dead =
-      let f = fitted (c .full) (T .cap) s in
-      fall-to (suc (s .bits)) (f .bits) dead (omega (arith, subset-le f s (fitted-subset (c .full) (T .cap) s)))
-      (λ n a l. fitted-above (c .full) (T .cap) s (record { bits = n }) (allowed-iff T c (record { bits = n }) .0 a .1) (omega arith))
+  -- the numbers from the tied jobs down are those from the first set that is tried
+  pub from-first : (dead : List ℕ) → triesBelow (suc (c .tied .bits)) dead ≡ triesBelow (suc (firstTried (c .full) (T .cap) (c .tied) .bits)) dead
+  from-first dead =
+      let f = firstTried (c .full) (T .cap) (c .tied) in
+      fall-to (suc (c .tied .bits)) (f .bits) dead (omega (arith, subset-le f (c .tied) (first-subset (c .full) (T .cap) (c .tied))))
+      (λ n a l. first-above (c .full) (T .cap) (c .tied) (record { bits = n }) (allowed-iff T c (record { bits = n }) .0 a .1) (omega arith))
 
   -- below a subset the next one is the first that is tried
-  next : (subset : Set) (dead : List ℕ) → Subset subset (c .tied) → triesBelow (subset .bits) dead ≡ triesBelow (nextCount subset) dead
+  next : (subset : Set) (dead : List ℕ) → subset .bits < 2 ^ 64 → Subset subset (c .tied) → triesBelow (subset .bits) dead ≡ triesBelow (nextCount subset) dead
   unfolding count choose isEmpty
-  next subset dead w = go (isEmpty subset) refl
+  next subset dead b w = go (isEmpty subset) refl
     where
-      below : Set
-      below = nextBelow subset (c .tied)
-
-      between : (n : ℕ) → allowed T c (record { bits = n }) ≡ true → n < subset .bits → Dec (below .bits < n) → n ≤ below .bits
-      between n a l (no h) = omega arith
-      between n a l (yes h) =
-          let k = is-subset (record { bits = n }) (c .tied) .1 (allowed-iff T c (record { bits = n }) .0 a .0) in
-          absurd (true≢false (sym k ∙ no-subset-between subset (c .tied) n w h l))
-
-      go : (b : Bool) → isEmpty subset ≡ b → triesBelow (subset .bits) dead ≡ triesBelow (count (not b) (fitted (c .full) (T .cap) below)) dead
+      go : (z : Bool) → isEmpty subset ≡ z → triesBelow (subset .bits) dead ≡ triesBelow (count (not z) (nextTried (c .full) (T .cap) (c .tied) subset)) dead
       go true e = ap (λ (n : ℕ). triesBelow n dead) (eqb-true (subset .bits) 0 e)
       go false e =
-          fall-to (subset .bits) (below .bits) dead (next-less subset (c .tied) (omega (arith, eqb-false (subset .bits) 0 e))) (λ n a l. between n a l (decLt (below .bits) n))
-          ∙ from-fitted below dead
+          fall-to (subset .bits) (nextTried (c .full) (T .cap) (c .tied) subset .bits) dead (next-tried-less (c .full) (T .cap) (c .tied) subset (omega (arith, eqb-false (subset .bits) 0 e)))
+          (λ n a l. let k = allowed-iff T c (record { bits = n }) .0 a in next-tried-above (c .full) (T .cap) (c .tied) subset b w (record { bits = n }) (k .0) (k .1) l)
 
   -- a try that leads on ends the tries
   pub tried-on : (subset : Set) (dead : List ℕ) → Subset subset (c .tied) → attempted T left slot done c subset dead .plan .ok ≡ true
@@ -196,16 +181,16 @@ module _ (T : Tables) (left slot : ℕ) (done : Set) (c : Candidates) where
       go false p b q h = absurd (true≢false (sym h ∙ rw p))
 
   -- one that does not goes on to the next
-  pub tried-none : (subset : Set) (dead : List ℕ) → Subset subset (c .tied) → attempted T left slot done c subset dead .plan .ok ≡ false
+  pub tried-none : (subset : Set) (dead : List ℕ) → subset .bits < 2 ^ 64 → Subset subset (c .tied) → attempted T left slot done c subset dead .plan .ok ≡ false
       → Same (triesBelow (nextCount subset) (attempted T left slot done c subset dead .dead)) (triesBelow (suc (subset .bits)) dead)
   unfolding tries exploreBelow attempted choose missThen hit slotThen
-  tried-none subset dead w = go (chosen (T .takers) (c .tying) (c .full) (T .cap) subset) refl (afterSubset subset dead .plan .ok) refl
+  tried-none subset dead b w = go (chosen (T .takers) (c .tying) (c .full) (T .cap) subset) refl (afterSubset subset dead .plan .ok) refl
     where
-      go : (a : Bool) → chosen (T .takers) (c .tying) (c .full) (T .cap) subset ≡ a → (b : Bool) → afterSubset subset dead .plan .ok ≡ b → attempted T left slot done c subset dead .plan .ok ≡ false
+      go : (a : Bool) → chosen (T .takers) (c .tying) (c .full) (T .cap) subset ≡ a → (o : Bool) → afterSubset subset dead .plan .ok ≡ o → attempted T left slot done c subset dead .plan .ok ≡ false
           → Same (triesBelow (nextCount subset) (attempted T left slot done c subset dead .dead)) (triesBelow (suc (subset .bits)) dead)
       go true p true q h = absurd (true≢false (rw (p, q) at h))
-      go true p false q h = rw (allowed-chosen subset w, p, q, ← (next subset (afterSubset subset dead .dead) w)) (record { plan = refl; dead = refl })
-      go false p b q h = rw (allowed-chosen subset w, p, ← (next subset dead w)) (record { plan = refl; dead = refl })
+      go true p false q h = rw (allowed-chosen subset w, p, q, ← (next subset (afterSubset subset dead .dead) b w)) (record { plan = refl; dead = refl })
+      go false p o q h = rw (allowed-chosen subset w, p, ← (next subset dead b w)) (record { plan = refl; dead = refl })
 
   -- no number is left
   pub tried-all : (subset : Set) (dead : List ℕ) → triesBelow (count false subset) dead ≡ atOnce noPlan dead
@@ -228,23 +213,22 @@ pub record Going (T : Tables) (left slot : ℕ) (done : Set) (c : Candidates) (d
   pub len : length dead ≡ length dead₀
   pub path-is : path ≡ path₀
   pub inside : Subset tried (c .tied)
+  pub small : tried .bits < 2 ^ 64
   pub same : Same (tries T left slot done c (count more tried) dead) (slotTries T left slot done c dead₀)
 
 module _ (T : Tables) (left slot : ℕ) (done : Set) (c : Candidates) (dead₀ path₀ : List ℕ) where
-  abbrev fit : Set → Set
-  fit = fitted (c .full) (T .cap)
-
   abbrev attempt : Set → List ℕ → Explored
   attempt tried dead = attempted T left slot done c tried dead
 
-  pub going-start : (tried : Set) → tried ≡ fit (c .tied) → Going T left slot done c dead₀ path₀ dead₀ path₀ tried true
+  pub going-start : (tried : Set) → tried .bits < 2 ^ 64 → tried ≡ firstTried (c .full) (T .cap) (c .tied) → Going T left slot done c dead₀ path₀ dead₀ path₀ tried true
   unfolding count choose
-  going-start tried e = rw e (record {
+  going-start tried b e = record {
     len = refl;
     path-is = refl;
-    inside = fitted-subset (c .full) (T .cap) (c .tied);
-    same = rw (← (from-fitted T left slot done c (c .tied) dead₀)) (record { plan = refl; dead = refl });
-  })
+    inside = rw e (first-subset (c .full) (T .cap) (c .tied));
+    small = b;
+    same = rw (e, ← (from-first T left slot done c dead₀)) (record { plan = refl; dead = refl });
+  }
 
   module _ (dead path : List ℕ) (tried : Set) where
     -- a try that leads on
@@ -255,16 +239,16 @@ module _ (T : Tables) (left slot : ℕ) (done : Set) (c : Candidates) (dead₀ p
     -- one that does not, with what the code has after it
     pub going-on : Going T left slot done c dead₀ path₀ dead path tried true → attempt tried dead .plan .ok ≡ false
         → (dead′ path′ : List ℕ) (tried′ : Set) (more′ : Bool) → dead′ ≡ attempt tried dead .dead → length dead′ ≡ length dead → path′ ≡ written slot (attempt tried dead .plan .sets) path
-        → tried′ ≡ fit (nextBelow tried (c .tied)) → more′ ≡ not (isEmpty tried) → Going T left slot done c dead₀ path₀ dead′ path′ tried′ more′
+        → tried′ .bits < 2 ^ 64 → tried′ ≡ nextTried (c .full) (T .cap) (c .tied) tried → more′ ≡ not (isEmpty tried) → Going T left slot done c dead₀ path₀ dead′ path′ tried′ more′
     unfolding count choose written
-    going-on g h dead′ path′ tried′ more′ d l p u m =
-        let below = nextBelow tried (c .tied) in
+    going-on g h dead′ path′ tried′ more′ d l p b u m =
         let n = attempted-empty T left slot done c tried dead h in
         record {
           len = l ∙ g .len;
           path-is = p ∙ rw n (g .path-is);
-          inside = rw u (subset-trans (fit below) below (c .tied) (fitted-subset (c .full) (T .cap) below) (next-subset tried (c .tied)));
-          same = rw (d, u, m) (same-trans (tried-none T left slot done c tried dead (g .inside) h) (g .same));
+          inside = rw u (next-tried-subset (c .full) (T .cap) (c .tied) tried (g .inside));
+          small = b;
+          same = rw (d, u, m) (same-trans (tried-none T left slot done c tried dead (g .small) (g .inside) h) (g .same));
         }
 
     -- no subset is left

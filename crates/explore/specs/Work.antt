@@ -103,7 +103,7 @@ once-open slot slots dead k e r l h n E = record {
   unmarked = λ j m. either (λ j. isMarked dead j ≡ false) n (E .unmarked) j m;
   keeps = λ j m. kept (e .plan .ok) j (E .keeps j m);
   marks = λ o j m. rw (o) (either (λ j. isMarked (withMark (e .dead) k) j ≡ true) (marked k .1 (inr (eq-eqb k k refl))) (λ j m. marked j .1 (inl (E .marks o j m))) j m);
-  size = sized (e .plan .ok);
+  size = filled (e .plan .ok);
 }
   where
     either : (P : ℕ → Type 0) → P k → ((j : ℕ) → List·Memᴰ j (e .opened) → P j) → (j : ℕ) → List·Memᴰ j (k ∷ e .opened) → P j
@@ -120,9 +120,9 @@ once-open slot slots dead k e r l h n E = record {
     kept true j m = m
     kept false j m = marked j .1 (inl m)
 
-    sized : (o : Bool) → length (choose o (e .dead) (withMark (e .dead) k)) ≡ length dead
-    sized true = E .size
-    sized false = length-withMark (e .dead) k ∙ E .size
+    filled : (o : Bool) → length (choose o (e .dead) (withMark (e .dead) k)) ≡ length dead
+    filled true = E .size
+    filled false = length-withMark (e .dead) k ∙ E .size
 
 module _ (T : Tables) (slots : ℕ) (N : Narrow (T .released) (T .followed) slots) where
   once-below : (goes : Set → Set → List ℕ → Explored) (from : ℕ) (done : Set) (c : Candidates)

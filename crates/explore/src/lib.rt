@@ -1,4 +1,4 @@
-// One search: the preferred plan of one length, if there is one.
+// One search: the preferred plan of one length with at most `cap` jobs in a slot, if there is one.
 //
 // Jobs stand at places: the first job at place 63, the next at 62 and so on (crate jobset). So of two sets the one with the
 // greater number is preferred, and the subsets of a set by falling numbers are its subsets in the order of preference.
@@ -17,14 +17,14 @@ ghost use Prim.Native.Nat.{_+_, _<_, _≤_};
 ghost use lib.ListN.{length};
 ghost use Rattle.jobset.specs.Sets.{setAt, members, isSubset};
 ghost use Rattle.jobset.specs.Arrays.{giversIn, takersIn, releasedIn, followedIn};
-ghost use Rattle.explore.specs.Slot.{tablesIn, heldBefore, sortJob, candidatesOf, seated, candidatesAt, sized, suits, chosen};
+ghost use Rattle.explore.specs.Slot.{tablesIn, heldBefore, sortJob, candidatesOf, withinCap, candidatesAt, filled, oneOrFull, chosen};
 ghost use Rattle.explore.specs.Model.{codeOf, key, written, explored};
 ghost use Rattle.explore.specs.Codes.{Narrow};
 ghost use Rattle.explore.specs.Steps.{attempted, slotTries};
 
 // The candidates of a slot: those without a giver in the slot before, those with exactly one, and these givers. A slot gets the
-// forced ones and one tied to each tying job; or, where that is more than the boards there are, it is `full`: then none is forced, and
-// as many as there are boards are taken of all.
+// forced ones and one tied to each tying job. Where that is more than it takes the slot is `full`: then none is forced, all
+// candidates stand in `tied`, and it gets as many of them as it takes.
 pub struct Candidates {
     pub forced: Set,
     pub tied: Set,
@@ -112,12 +112,12 @@ fn candidates_of(tables: &[u64; 260], free: Set, done: Set, last: Set) -> Candid
     candidates
 }
 
-// A cap that no slot meets.
+// A cap that no slot meets: there are at most 64 forced and 64 tying jobs.
 pub const NO_CAP: u32 = 128;
 
-// The candidates of a slot of at most `cap` jobs.
-fn seat(candidates: Candidates, cap: u32) -> Candidates
-    ensures { λ r. ⌜ r ≡ seated cap candidates ⌝ }
+// The same of a slot that takes at most `cap` jobs.
+fn within_cap(candidates: Candidates, cap: u32) -> Candidates
+    ensures { λ r. ⌜ r ≡ withinCap cap candidates ⌝ }
 {
     if NO_CAP <= cap {
         return candidates;
@@ -136,8 +136,15 @@ fn seat(candidates: Candidates, cap: u32) -> Candidates
     }
 }
 
-// The candidates of a slot, seated.
-fn candidates_at(tables: &[u64; 260], left: usize, slot: usize, done: Set, last: Set, cap: u32) -> Candidates
+// The candidates of a slot, withinCap.
+fn candidates_at(
+    tables: &[u64; 260],
+    left: usize,
+    slot: usize,
+    done: Set,
+    last: Set,
+    cap: u32,
+) -> Candidates
     requires { ⌜ (left ≤ 64) × (slot ≤ 64) ⌝ }
     ensures { λ r. ⌜ r ≡ candidatesAt (tablesIn cap (now (tables .entry))) left slot done last ⌝ }
 {
@@ -147,12 +154,12 @@ fn candidates_at(tables: &[u64; 260], left: usize, slot: usize, done: Set, last:
     let window = begun.minus(Set {
         bits: tables[194 + left],
     });
-    seat(candidates_of(tables, window.minus(done), done, last), cap)
+    within_cap(candidates_of(tables, window.minus(done), done, last), cap)
 }
 
 // Has the subset as many jobs as the slot takes, where it is full?
-fn has_size(full: bool, cap: u32, subset: Set) -> bool
-    ensures { λ r. ⌜ r ≡ sized full cap subset ⌝ }
+fn is_filled(full: bool, cap: u32, subset: Set) -> bool
+    ensures { λ r. ⌜ r ≡ filled full cap subset ⌝ }
 {
     if !full {
         return true;
@@ -161,8 +168,8 @@ fn has_size(full: bool, cap: u32, subset: Set) -> bool
 }
 
 // Of the takers of one tying job, is just one there? In a full slot it may be none.
-fn is_suited(full: bool, near: Set) -> bool
-    ensures { λ r. ⌜ r ≡ suits full near ⌝ }
+fn is_one_or_full(full: bool, near: Set) -> bool
+    ensures { λ r. ⌜ r ≡ oneOrFull full near ⌝ }
 {
     if near.is_empty() {
         return full;
@@ -174,7 +181,7 @@ fn is_suited(full: bool, near: Set) -> bool
 fn is_chosen(tables: &[u64; 260], tying: Set, full: bool, cap: u32, subset: Set) -> bool
     ensures { λ r. ⌜ r ≡ chosen (takersIn (now (tables .entry))) tying full cap subset ⌝ }
 {
-    if !has_size(full, cap, subset) {
+    if !is_filled(full, cap, subset) {
         return false;
     }
     let mut rest = tying;
@@ -183,7 +190,7 @@ fn is_chosen(tables: &[u64; 260], tying: Set, full: bool, cap: u32, subset: Set)
         let near = subset.intersection(Set {
             bits: tables[64 + i],
         });
-        if !is_suited(full, near) {
+        if !is_one_or_full(full, near) {
             return false;
         }
         rest = rest.rest();
@@ -267,7 +274,7 @@ fn try_exact(
     false
 }
 
-// The same of a full slot: those with more jobs than it takes are passed over.
+// The same of a full slot: subsets with more jobs than it takes are passed over, and most of those with fewer.
 fn try_full(
     tables: &[u64; 260],
     dead: &mut [u8],
@@ -290,7 +297,7 @@ fn try_full(
             return true;
         }
         more = !tried.is_empty();
-        tried = tried.next_below(candidates.tied).upper(cap);
+        tried = tried.next_fit(candidates.tied, cap);
     }
     false
 }

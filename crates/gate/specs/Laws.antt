@@ -1,6 +1,6 @@
 -- The numbers of the answers are those of the rules, and the name's number says where it stands. Assumes nothing.
 use mathlib.Core.Path.{_≡_, refl, sym, ap, subst, _∙_}
-use mathlib.Core.Logic.{inl, inr, ⊎-elim}
+use mathlib.Core.Logic.{_⊎_, inl, inr, ⊎-elim}
 use mathlib.Core.List.{List}
 use Prim.Native.Nat.{ℕ, zero, suc, _+_, _-_, _*_, _/_, _%_, _≤_, _<_}
 use native.Mathlib.Omega.{arith}
@@ -79,17 +79,17 @@ name-at bs s b = go (lookup bs s b) refl
     go (got zero) e = unfold part nameSpan nameNumber in refl
     go (got (suc i)) e = unfold part nameSpan nameNumber in let f = far i e in rw (f .0, f .1) refl
 
--- ---- no number is greater than that of the last question
+-- ---- no number is greater than that of the last question, but 21
 
-pub planned-most : (file work table : List ℕ) (p : Planned) (work′ table′ : List ℕ) → outcomeOf p work′ table′ ≡ plan file work table → plannedNumber p ≤ 21
+pub planned-most : (file work table : List ℕ) (p : Planned) (work′ table′ : List ℕ) → outcomeOf p work′ table′ ≡ plan file work table → (plannedNumber p ≤ 13) ⊎ (plannedNumber p ≡ 21)
 unfolding plannedNumber
-planned-most file work table (planned.Table k) work′ table′ e = omega arith
+planned-most file work table (planned.Table k) work′ table′ e = inl (omega arith)
 planned-most file work table (planned.Refused q) work′ table′ e =
     let n = ap (λ (o : Outcome). o .number) e in
-    ⊎-elim (λ h. omega (arith, n, h)) (λ h. omega (arith, n, h)) (plan-refuses file work table)
+    ⊎-elim (λ h. inl (omega (arith, n, h))) (λ h. inr (n ∙ h)) (plan-refuses file work table)
 
-pub verdict-most : (file table : List ℕ) (v : Verdict) → v ≡ verdictOf (check file table) → verdictNumber v ≤ 21
-verdict-most file table v e = omega (arith, ap verdictNumber e, verdict-number (check file table), check-most file table)
+pub verdict-most : (file table : List ℕ) (v : Verdict) → v ≡ verdictOf (check file table) → (verdictNumber v ≤ 18) ⊎ (verdictNumber v ≡ 21)
+verdict-most file table v e = rw (ap verdictNumber e ∙ verdict-number (check file table)) (check-most file table)
 
 unfoldable Few : Found → Type 0
 Few (found.Job j) = Unit {0}

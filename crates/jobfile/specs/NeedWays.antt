@@ -7,12 +7,13 @@ use native.Mathlib.Omega.{arith}
 use borrow.Author.Tests.{eq-eqb, ne-eqb}
 use lib.ListN.{set, take, drop}
 use lib.Seq.{take-set-lt, take-set-le, drop-set-lt, drop-set-add}
-use Rattle.rules.specs.Basics.{choose}
+use Rattle.rules.specs.Basics.{choose, at}
 use Rattle.rules.specs.Fields.{refused, got, ask}
 use Rattle.rules.specs.JobFile.{isJob}
 use Rattle.laws.specs.Tests.{tests, T-true}
 use Rattle.jobset.specs.Sets.{member, setAt, with}
 use Rattle.jobset.specs.declared.Set.{Set}
+use Rattle.jobset.specs.Inclusion.{with-same, with-other}
 use Rattle.jobset.specs.Arrays.{giversIn, takersIn, giver-set, taker-set}
 use Rattle.jobfile.specs.declared.Counts.{Counts}
 use Rattle.jobfile.specs.Reading.{State, stateOf, answerOf, oneMore, linked, takeNeed}
@@ -90,15 +91,23 @@ module _ (c : Counts) (o tables : List ℕ) (g k : ℕ) (giver : isJob (c .jobs)
   abbrev both : List ℕ
   both = bothPut tables (63 - (k - 1)) (63 - (g - 1))
 
-  pub known-in : member (setAt tables (63 - (k - 1))) (63 - (g - 1)) ≡ true → takeNeed before g k ≡ refused 9
-  known-in e = known-need before g k giver taker other (rw (giver-set tables (63 - (k - 1)) (omega arith)) e)
+  -- the taker's givers with the giver
+  abbrev with-giver : Set
+  with-giver = with (setAt tables (63 - (k - 1))) (63 - (g - 1))
 
-  pub new-in : member (setAt tables (63 - (k - 1))) (63 - (g - 1)) ≡ false
+  pub known-in : (s : Set) → s ≡ with-giver → s .bits ≡ at tables (63 - (k - 1)) → takeNeed before g k ≡ refused 9
+  known-in s w e =
+      let p = 63 - (k - 1) in let q = 63 - (g - 1) in
+      let m = with-same (setAt tables p) q .0 (ap (λ (x : Set). x .bits) (sym w) ∙ e) in
+      known-need before g k giver taker other (rw (giver-set tables p (omega arith)) m)
+
+  pub new-in : (s : Set) → s ≡ with-giver → (s .bits ≡ at tables (63 - (k - 1)) → ⊥)
       → takeNeed before g k ≡ got (oneMore (stateOf c o (giversIn both) (takersIn both)) (c .limit) (c .sockets))
   unfolding linked
-  new-in e =
+  new-in s w e =
       let p = 63 - (k - 1) in let q = 63 - (g - 1) in
-      new-need before g k giver taker other (rw (giver-set tables p (omega arith)) e)
+      let m = with-other (setAt tables p) q (λ d. e (ap (λ (x : Set). x .bits) w ∙ d)) in
+      new-need before g k giver taker other (rw (giver-set tables p (omega arith)) m)
       ∙ rw (givers-put tables p q (omega arith), takers-put tables p q (omega arith) (omega arith)) refl
 
 -- ---- the reader's answer, where x and y are the two bytes v and w

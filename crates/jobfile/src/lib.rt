@@ -79,13 +79,13 @@ pub struct Counts {
 fn in_place(fields: usize, tag: u8) -> bool
     ensures { λ r. ⌜ r ≡ inPlace fields tag ⌝ }
 {
+    if 2 <= fields {
+        return 3 <= tag;
+    }
     if fields == 0 {
         return tag == 1;
     }
-    if fields == 1 {
-        return tag == 2;
-    }
-    3 <= tag
+    tag == 2
 }
 
 // The row in which a tag is looked up: its own, or the last where it has none.
@@ -249,10 +249,10 @@ fn take_need(c: Counts, v: &[u8], tables: &mut [u64; 260]) -> Counts
     let g = 63 - (giver - 1);
     let k = 63 - (taker - 1);
     let before = Set { bits: tables[k] };
-    if before.has(g) {
+    let after = before.with(g);
+    if after.bits == before.bits {
         return refused(9);
     }
-    let after = before.with(g);
     tables[k] = after.bits;
     let others = Set {
         bits: tables[64 + g],

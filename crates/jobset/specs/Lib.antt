@@ -12,5 +12,6 @@ pub mod Members
 pub mod Rest
 pub mod Size
 pub mod Upper
+pub mod NextFit
 pub mod Highest
 pub mod Arrays

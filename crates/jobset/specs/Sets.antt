@@ -5,7 +5,7 @@ use mathlib.Core.List.{List, [], _∷_}
 use Prim.Native.Nat.{ℕ, zero, suc, _-_, _/_, _%_, _^_}
 use lib.Bits.{bitAnd, bitOr, bitXor}
 use lib.Count.{leadingZeros, ones, trailingZeros}
-use lib.Dec.{eqb}
+use lib.Dec.{ltb, eqb}
 use Rattle.rules.specs.Basics.{choose, at}
 use Rattle.jobset.specs.declared.Set.{Set}
 
@@ -89,6 +89,11 @@ lessLowest (suc k) s = lessLowest k (nextBelow s s)
 -- the highest members of s, at most so many
 unfoldable pub upper : ℕ → Set → Set
 upper most s = lessLowest (size s - most) s
+
+-- of the subset s of t, a smaller subset of t such that none of just so many members lies between them (law `next-fit`): the next
+-- subset without its lowest members, or, where it has too few, s without its lowest member
+unfoldable pub nextFit : ℕ → Set → Set → Set
+nextFit most s t = choose (ltb (size (nextBelow s t)) most) (nextBelow s s) (upper most (nextBelow s t))
 
 -- the members of s among the k places from i up, rising
 unfoldable pub membersFrom : ℕ → ℕ → Set → List ℕ

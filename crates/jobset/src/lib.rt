@@ -6,7 +6,7 @@ ghost use mathlib.Core.Path.{_≡_};
 ghost use mathlib.Core.Bool.{false};
 ghost use Prim.Native.Nat.{_<_};
 ghost use lib.Dec.{eqb};
-ghost use Rattle.jobset.specs.Sets.{digit, member, one, with, without, union, minus, intersection, isSubset, isEmpty, isOne, size, lowest, highest, nextBelow, upper};
+ghost use Rattle.jobset.specs.Sets.{digit, member, one, with, without, union, minus, intersection, isSubset, isEmpty, isOne, size, lowest, highest, nextBelow, upper, nextFit};
 
 pub struct Set {
     pub bits: u64,
@@ -187,5 +187,16 @@ impl Set {
             extra -= 1;
         }
         highest
+    }
+
+    // Of a subset of `whole`, a smaller one: no subset with just `count` members lies between them.
+    pub fn next_fit(self, whole: Set, count: u32) -> Set
+        ensures { λ r. ⌜ r ≡ nextFit count self whole ⌝ }
+    {
+        let below = self.next_below(whole);
+        if below.size() < count {
+            return self.next_below(self);
+        }
+        below.upper(count)
     }
 }

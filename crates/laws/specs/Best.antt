@@ -1,4 +1,4 @@
--- The best start list within a limit: the shortest that satisfies P, and of those the preferred; and nothing else is so. Assumes nothing.
+-- The best start list within a limit: the shortest that satisfies P and the cap, and of those the preferred; and nothing else is so. Assumes nothing.
 use mathlib.Core.Path.{_≡_, refl, sym, ap}
 use mathlib.Core.Logic.{_≢_, _⊎_, inl, inr, ⊎-elim, _↔_}
 use mathlib.Core.Bool.{Bool, _&&_}
@@ -247,7 +247,7 @@ module _ (n : ℕ) (needs : List Need) (c L : ℕ) (distinct : Distinct needs) (
       compare u p o (yes h) = inl h
       compare u p o (no h) = let e : slots t ≡ slots u = omega (arith, s .shortest u p) in inr (e, equal-or u p e o)
 
-  -- where a list within the limit satisfies P there is a best one
+  -- where a list within the limit satisfies P and the cap there is a best one
   pub best-some : (u : List ℕ) → Satisfies n needs c L u → (t : List ℕ) × (best n (runsb n needs c) L ≡ some t)
   best-some u s = go (best n (runsb n needs c) L) (best-is n needs c L)
     where
@@ -255,7 +255,7 @@ module _ (n : ℕ) (needs : List Need) (c L : ℕ) (distinct : Distinct needs) (
       go none h = let w = program L u .0 s in absurd (h u (w .0) (w .1))
       go (some t) h = (t, refl)
 
-  -- and there is none exactly where no list within the limit satisfies P
+  -- and there is none exactly where no list within the limit satisfies both
   pub best-none : (best n (runsb n needs c) L ≡ none) ↔ ((t : List ℕ) → Satisfies n needs c L t → ⊥)
   best-none = (λ e t s. let w = program L t .0 s in (rw e at (best-is n needs c L)) t (w .0) (w .1), λ f. go f (best n (runsb n needs c) L) (best-is n needs c L))
     where

@@ -134,9 +134,12 @@ count-all p n h = omega (arith, length-range n 0, pigeonhole (range n 0) (passin
 -- no more than of two others together
 pub count-either : (q p r : ℕ → Bool) (n : ℕ) → ((i : ℕ) → i < n → T (q i) → T (p i) ⊎ T (r i)) → count q n ≤ count p n + count r n
 unfolding count
-count-either q p r n h = omega (arith, length-append (passing p n) (passing r n), pigeonhole (passing q n) (passing p n ++ passing r n) (passing-distinct q n) (λ i m. let w = passing-in q n i .0 m in
-    ⊎-elim (λ t. Memᴰ·append-left (passing r n) (passing-in p n i .1 (w .0, t))) (λ t. Memᴰ·append-right (passing p n) (passing-in r n i .1 (w .0, t))) (h i (w .0) (w .1))))
-
+count-either q p r n h = omega (
+  arith,
+  length-append (passing p n) (passing r n),
+  pigeonhole (passing q n) (passing p n ++ passing r n) (passing-distinct q n) (λ i m. let w = passing-in q n i .0 m in
+      ⊎-elim (λ t. Memᴰ·append-left (passing r n) (passing-in p n i .1 (w .0, t))) (λ t. Memᴰ·append-right (passing p n) (passing-in r n i .1 (w .0, t))) (h i (w .0) (w .1))),
+)
 
 -- no more than there are
 pub count-most : (p : ℕ → Bool) (n : ℕ) → count p n ≤ n

@@ -1,4 +1,5 @@
--- The field of the most boards: where it is left out or says eight, no cap is asked for, and with it or without it all answers are the same. Assumes nothing.
+-- The field of the most boards: where it is left out or says eight, no cap is asked for; a readable file that says eight gets the same from planner and check
+-- as without the field. Assumes nothing.
 use mathlib.Core.Path.{_≡_, refl, sym, ap, ap₂, _∙_}
 use mathlib.Core.Logic.{_↔_}
 use mathlib.Core.Bool.{Bool, true, false, _&&_}

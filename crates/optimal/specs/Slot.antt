@@ -13,8 +13,8 @@ use Rattle.jobset.specs.declared.Set.{Set}
 use Rattle.jobset.specs.Sets.{setAt, member, minus, intersection, isSubset, isEmpty, isOne, size}
 use Rattle.jobset.specs.Membership.{in-intersection}
 use Rattle.explore.specs.declared.Candidates.{Candidates}
-use Rattle.explore.specs.Slot.{windowOf, isForced, isTied, candidatesIn, candidatesAt, suits, served}
-use Rattle.explore.specs.CandidateLaws.{in-forced, in-tied, Tying, in-tying, suits-one, suits-few, served-iff}
+use Rattle.explore.specs.Slot.{windowOf, isForced, isTied, candidatesIn, candidatesAt, oneOrFull, served}
+use Rattle.explore.specs.CandidateLaws.{in-forced, in-tied, Tying, in-tying, exactly-one, at-most-one, served-iff}
 use Rattle.dominance.specs.Tests.{GiverBefore}
 use Rattle.dominance.specs.States.{Instance}
 use Rattle.dominance.specs.Windows.{in-window}
@@ -30,9 +30,9 @@ module _ {G : Given} {C : ℕ} {h : C ≤ G .limit} {k : ℕ} (x : At G C h (suc
   abbrev pub c : Candidates
   c = candidatesIn (G .T) (suc k) (x .s) (x .done) (x .last)
 
-  -- the same seated
-  abbrev pub seats : Candidates
-  seats = candidatesAt (G .T) (suc k) (x .s) (x .done) (x .last)
+  -- the same withinCap
+  abbrev pub slotCandidates : Candidates
+  slotCandidates = candidatesAt (G .T) (suc k) (x .s) (x .done) (x .last)
 
   -- ---- the jobs of the window that have not run
 
@@ -180,11 +180,11 @@ module _ {G : Given} {C : ℕ} {h : C ≤ G .limit} {k : ℕ} (x : At G C h (suc
     pub exact-test : ((j : ℕ) → List·Memᴰ j A → Tied I (x .s) (x .t) j) → (served (G .T .takers) (c .tying) false X ≡ true) ↔ Exact I (x .s) (x .t) A
     exact-test tied = (to, from)
       where
-        law : (served (G .T .takers) (c .tying) false X ≡ true) ↔ ((p : ℕ) → p < 64 → member (c .tying) p ≡ true → suits false (intersection X (setAt (G .T .takers) p)) ≡ true)
+        law : (served (G .T .takers) (c .tying) false X ≡ true) ↔ ((p : ℕ) → p < 64 → member (c .tying) p ≡ true → oneOrFull false (intersection X (setAt (G .T .takers) p)) ≡ true)
         law = served-iff (G .T .takers) (c .tying) false X
 
-        one-taker : (g : ℕ) → g < G .n → (suits false (intersection X (setAt (G .T .takers) (63 - g))) ≡ true) ↔ Sole (G .n) (Takes g)
-        one-taker g l = rw (suits-one (intersection X (setAt (G .T .takers) (63 - g)))) (one-is (G .n-le) (takers-are g l))
+        one-taker : (g : ℕ) → g < G .n → (oneOrFull false (intersection X (setAt (G .T .takers) (63 - g))) ≡ true) ↔ Sole (G .n) (Takes g)
+        one-taker g l = rw (exactly-one (intersection X (setAt (G .T .takers) (63 - g)))) (one-is (G .n-le) (takers-are g l))
 
         to : served (G .T .takers) (c .tying) false X ≡ true → Exact I (x .s) (x .t) A
         to e = record {
@@ -202,7 +202,7 @@ module _ {G : Given} {C : ℕ} {h : C ≤ G .limit} {k : ℕ} (x : At G C h (suc
             let e : 63 - (63 - p) ≡ p = omega arith in
             let w = at-place is-tying p m in
             let k = ex .served (63 - p) (w .0) (w .1) (w .2) (w .3) in
-            ap (λ (q : ℕ). suits false (intersection X (setAt (G .T .takers) q))) (sym e)
+            ap (λ (q : ℕ). oneOrFull false (intersection X (setAt (G .T .takers) q))) (sym e)
             ∙ one-taker (63 - p) (b .1) .1 record {
               job = k .0;
               in-n = G .needs-in (63 - p) (k .0) (k .1) .1;
@@ -215,11 +215,11 @@ module _ {G : Given} {C : ℕ} {h : C ≤ G .limit} {k : ℕ} (x : At G C h (suc
         ↔ ((g j k : ℕ) → Gives (G .needs) g j → Gives (G .needs) g k → List·Memᴰ j A → List·Memᴰ k A → at (x .t) g + 1 ≡ x .s → j ≡ k)
     single-test able = (to, from)
       where
-        law : (served (G .T .takers) (c .tying) true X ≡ true) ↔ ((p : ℕ) → p < 64 → member (c .tying) p ≡ true → suits true (intersection X (setAt (G .T .takers) p)) ≡ true)
+        law : (served (G .T .takers) (c .tying) true X ≡ true) ↔ ((p : ℕ) → p < 64 → member (c .tying) p ≡ true → oneOrFull true (intersection X (setAt (G .T .takers) p)) ≡ true)
         law = served-iff (G .T .takers) (c .tying) true X
 
-        few-takers : (g : ℕ) → g < G .n → (suits true (intersection X (setAt (G .T .takers) (63 - g))) ≡ true) ↔ ((j k : ℕ) → j < G .n → k < G .n → Takes g j → Takes g k → j ≡ k)
-        few-takers g l = rw (suits-few (intersection X (setAt (G .T .takers) (63 - g)))) (Iff·trans (low (size (intersection X (setAt (G .T .takers) (63 - g))))) (few-is (G .n-le) (takers-are g l)))
+        few-takers : (g : ℕ) → g < G .n → (oneOrFull true (intersection X (setAt (G .T .takers) (63 - g))) ≡ true) ↔ ((j k : ℕ) → j < G .n → k < G .n → Takes g j → Takes g k → j ≡ k)
+        few-takers g l = rw (at-most-one (intersection X (setAt (G .T .takers) (63 - g)))) (Iff·trans (low (size (intersection X (setAt (G .T .takers) (63 - g))))) (few-is (G .n-le) (takers-are g l)))
           where
             low : (n : ℕ) → (leb n 1 ≡ true) ↔ (n ≤ 1)
             low n = (λ e. T-leb n 1 .0 (T-true (leb n 1) .1 e), λ h. T-true (leb n 1) .0 (T-leb n 1 .1 h))
@@ -235,5 +235,5 @@ module _ {G : Given} {C : ℕ} {h : C ≤ G .limit} {k : ℕ} (x : At G C h (suc
             let b = is-tying .bound p m in
             let e : 63 - (63 - p) ≡ p = omega arith in
             let w = at-place is-tying p m in
-            ap (λ (q : ℕ). suits true (intersection X (setAt (G .T .takers) q))) (sym e)
+            ap (λ (q : ℕ). oneOrFull true (intersection X (setAt (G .T .takers) q))) (sym e)
             ∙ few-takers (63 - p) (b .1) .1 (λ j k _ _ u v. one (63 - p) j k (u .1) (v .1) (u .0) (v .0) (w .3)))

@@ -134,11 +134,11 @@ starts-are n U C plan n-le C-le roof pr len below =
     each : (p : ℕ) → p < 64 → Dec (63 - p < n) → at (startsTo path C) p ≡ at (byPlace r) p
     each p l d = go d ∙ sym (tabulate-at (λ p. at r (63 - p)) 64 0 p 0 l ∙ ap (λ (q : ℕ). at r (63 - q)) (omega arith))
       where
-        seat : 63 - (63 - p) ≡ p
-        seat = omega arith
+        within_cap : 63 - (63 - p) ≡ p
+        within_cap = omega arith
 
         shown : 63 - p < n → Entry U (at (startsTo path C) (63 - (63 - p))) (at r (63 - p)) → at (startsTo path C) p ≡ at r (63 - p)
-        shown h (inl q) = ap (at (startsTo path C)) (sym seat) ∙ q
+        shown h (inl q) = ap (at (startsTo path C)) (sym within_cap) ∙ q
         shown h (inr q) = absurd (omega (arith, below (63 - p) h, q .1))
 
         go : Dec (63 - p < n) → at (startsTo path C) p ≡ at r (63 - p)

@@ -18,16 +18,16 @@ use Rattle.jobset.specs.Sets.{member, empty, union, size, Subset}
 use Rattle.jobset.specs.Inclusion.{subset-le}
 use Rattle.jobset.specs.Order.{HighestDifference, greater-iff}
 use Rattle.explore.specs.declared.Candidates.{Candidates}
-use Rattle.explore.specs.Slot.{Tables, seated, candidatesIn, candidatesAt, sized, served, allowed, slotSet}
+use Rattle.explore.specs.Slot.{Tables, withinCap, candidatesIn, candidatesAt, filled, served, allowed, slotSet}
 use Rattle.explore.specs.CandidateLaws.{found-open, allowed-iff}
 use Rattle.dominance.specs.Tries.{Sooner, Ordered}
 use Rattle.dominance.specs.States.{Instance, AtMost, Legal}
 use Rattle.dominance.specs.Maximal.{Maximal, TriesMaximal}
 use Rattle.dominance.specs.Exact.{Forced, Tied, Exact, Parts, forced-or-tied, parts-legal, exact-maximal, maximal-parts, maximal-exact}
-use Rattle.dominance.specs.Room.{Tying, roomy, full-set, full-only}
+use Rattle.dominance.specs.Room.{Tying, has-room, full-set, full-only}
 use Rattle.optimal.specs.Jobs.{OfJobs, Is, present, is-empty, is-union, subset-of, jobs, in-jobs, jobs-is, setOf, set-of-is, size-jobs, size-list}
 use Rattle.optimal.specs.Given.{Given, At}
-use Rattle.optimal.specs.Slot.{I, c, seats, is-forced, is-tied, free, is-tying, exact-test, single-test}
+use Rattle.optimal.specs.Slot.{I, c, slotCandidates, is-forced, is-tied, free, is-tying, exact-test, single-test}
 
 -- the jobs of the slot for each allowed number below b, from the highest down
 unfoldable pub triedBelow : ℕ → Tables → Candidates → ℕ → List (List ℕ)
@@ -84,7 +84,7 @@ module _ (n : ℕ) (T : Tables) (c : Candidates) where
       go true e r = (λ R w. let k = tried-number b R w in rw (k .jobs-are) (f b (k .number) (k .low) e (k .is-allowed)), r)
       go false e r = r
 
--- ---- the sets of a slot, whatever candidates are seated
+-- ---- the sets of a slot, whatever candidates are withinCap
 
 module _ {G : Given} {C : ℕ} {h : C ≤ G .limit} {k : ℕ} (x : At G C h (suc k)) (d : Candidates) (X Y : ℕ → Type 0)
     (fixed-is : Is (G .n) (d .forced) X) (free-is : Is (G .n) (d .tied) Y) (apart : (i : ℕ) → X i → Y i → ⊥) where
@@ -113,15 +113,15 @@ module _ {G : Given} {C : ℕ} {h : C ≤ G .limit} {k : ℕ} (x : At G C h (suc
     unfolding Subset
     free-jobs j w = let r = in-jobs (G .n) (set m) j .0 w in free-is .to j (r .0) (subset (63 - j) (r .1))
 
-    seated-is : Is (G .n) (slotSet d m) (λ i. X i ⊎ List·Memᴰ i (part m))
+    slot-is : Is (G .n) (slotSet d m) (λ i. X i ⊎ List·Memᴰ i (part m))
     unfolding slotSet
-    seated-is = is-union fixed-is number-is
+    slot-is = is-union fixed-is number-is
 
     -- its slot has what is fixed and these
     parts : (X-in : (i : ℕ) → X i → i < G .n) → (y : ℕ) → List·Memᴰ y (whole m) ↔ (X y ⊎ List·Memᴰ y (part m))
     parts X-in y = (
-      λ w. let r = in-jobs (G .n) (slotSet d m) y .0 w in seated-is .to y (r .0) (r .1),
-      λ o. let l : y < G .n = ⊎-elim (X-in y) (λ a. in-jobs (G .n) (set m) y .0 a .0) o in in-jobs (G .n) (slotSet d m) y .1 (l, seated-is .from y l o),
+      λ w. let r = in-jobs (G .n) (slotSet d m) y .0 w in slot-is .to y (r .0) (r .1),
+      λ o. let l : y < G .n = ⊎-elim (X-in y) (λ a. in-jobs (G .n) (set m) y .0 a .0) o in in-jobs (G .n) (slotSet d m) y .1 (l, slot-is .from y l o),
     )
 
   module _ (X-in : (i : ℕ) → X i → i < G .n) where
@@ -149,14 +149,14 @@ module _ {G : Given} {C : ℕ} {h : C ≤ G .limit} {k : ℕ} (x : At G C h (suc
             inside : (e .place < 64) × (63 - e .place < G .n)
             inside = number-is m a .bound (e .place) (e .is-in)
 
-            seat : 63 - (63 - e .place) ≡ e .place
-            seat = omega (arith, inside)
+            within_cap : 63 - (63 - e .place) ≡ e .place
+            within_cap = omega (arith, inside)
 
             first : List·Memᴰ i (part m)
-            first = in-jobs (G .n) (set m) i .1 (inside .1, ap (member (set m)) seat ∙ e .is-in)
+            first = in-jobs (G .n) (set m) i .1 (inside .1, ap (member (set m)) within_cap ∙ e .is-in)
 
             not-part : List·Memᴰ i (part q) → ⊥
-            not-part v = present (member (set q) (e .place)) (ap (member (set q)) (sym seat) ∙ in-jobs (G .n) (set q) i .0 v .1) (e .not-in)
+            not-part v = present (member (set q) (e .place)) (ap (member (set q)) (sym within_cap) ∙ in-jobs (G .n) (set q) i .0 v .1) (e .not-in)
 
             above : (j : ℕ) → j < 63 - e .place → member (set m) (63 - j) ≡ member (set q) (63 - j)
             above j u = e .same-above (63 - j) (omega arith)
@@ -176,16 +176,16 @@ module _ {G : Given} {C : ℕ} {h : C ≤ G .limit} {k : ℕ} (x : At G C h (suc
       list-subset = subset-of of-list free-is (λ y l m. B-free y m)
 
     -- the numbers tried are the maximal sets in order, if each allowed number is maximal and each maximal set is one
-    seats-maximal : ((m : ℕ) → Ok m → Maximal (I x) (x .s) (x .t) (whole m))
+    numbers-maximal : ((m : ℕ) → Ok m → Maximal (I x) (x .s) (x .t) (whole m))
         → ((S : List ℕ) → Maximal (I x) (x .s) (x .t) S → (X : Set) × Subset X (d .tied) × Ok (X .bits) × ((i : ℕ) → List·Memᴰ i S ↔ List·Memᴰ i (whole (X .bits))))
         → TriesMaximal (I x) (x .s) (x .t) (triedBelow (G .n) (G .T) d (suc (d .tied .bits)))
-    seats-maximal max num = record {
+    numbers-maximal max num = record {
       maximal = λ S w. let r = tried-number (G .n) (G .T) d (suc (d .tied .bits)) S w in rw (r .jobs-are) (max (r .number) (r .is-allowed));
       each = λ S mx. let w = num S mx in (whole (w .0 .bits), number-tried (G .n) (G .T) d (suc (d .tied .bits)) (w .0 .bits) (omega (arith, subset-le (w .0) (d .tied) (w .1))) (w .2), w .3);
       ordered = tried-ordered (G .n) (G .T) d (suc (d .tied .bits)) greater-sooner;
     }
 
--- ---- the two ways to seat
+-- ---- the two ways to within_cap
 
 module _ {G : Given} {C : ℕ} {h : C ≤ G .limit} {k : ℕ} (x : At G C h (suc k)) where
   -- the search over lists
@@ -239,14 +239,14 @@ module _ {G : Given} {C : ℕ} {h : C ≤ G .limit} {k : ℕ} (x : At G C h (suc
     d = c x
 
     room : (R : List ℕ) → Legal J (x .s) (x .t) R → AtMost (J .cap) R
-    room = roomy J (x .s) (x .t) F H F-is H-is F-once H-once (omega (arith, fits, sizes))
+    room = has-room J (x .s) (x .t) F H F-is H-is F-once H-once (omega (arith, fits, sizes))
 
     alone : (i : ℕ) → Fo i → Ti i → ⊥
     alone i f t = f .alone (t .giver)
 
     -- a subset of the tied jobs is allowed where it has exactly one taker for each tying job
     exact-is : (X : Set) (A : List ℕ) → Is (G .n) X (λ i. List·Memᴰ i A) → ((j : ℕ) → List·Memᴰ j A → Ti j) → Subset X (d .tied) → (allowed (G .T) d X ≡ true) ↔ Exact J (x .s) (x .t) A
-    unfolding candidatesIn sized imp
+    unfolding candidatesIn filled imp
     exact-is X A X-is tied inside =
         let e = found-open (G .T .givers) (free x) (x .done) (x .last) in
         let t = exact-test x X A X-is tied in (
@@ -318,7 +318,7 @@ module _ {G : Given} {C : ℕ} {h : C ≤ G .limit} {k : ℕ} (x : At G C h (suc
           same = list-part x d Fo Ti (is-forced x) (is-tied x) alone fo-in B B-free B-in
 
     fit-maximal : TriesMaximal J (x .s) (x .t) (triedBelow (G .n) (G .T) d (suc (d .tied .bits)))
-    fit-maximal = seats-maximal x d Fo Ti (is-forced x) (is-tied x) alone fo-in number-maximal number
+    fit-maximal = numbers-maximal x d Fo Ti (is-forced x) (is-tied x) alone fo-in number-maximal number
 
   -- ---- as many of both as the slot takes
 
@@ -351,7 +351,7 @@ module _ {G : Given} {C : ℕ} {h : C ≤ G .limit} {k : ℕ} (x : At G C h (suc
     less = omega (arith, short, sizes)
 
     full-number : (m : ℕ) → Ok x e None Either none-is either-is no-both m → Maximal J (x .s) (x .t) (whole x e None Either none-is either-is no-both m)
-    unfolding sized imp
+    unfolding filled imp
     full-number m ok = full-set J (x .s) (x .t) F H F-is H-is F-once H-once S (record {
       able = λ j v. ⊎-elim (λ f. f .able) (λ t. t .able) (in-S j v);
       candidate = λ j v. ⊎-elim (λ f. f .candidate) (λ t. t .candidate) (in-S j v);
@@ -364,7 +364,7 @@ module _ {G : Given} {C : ℕ} {h : C ≤ G .limit} {k : ℕ} (x : At G C h (suc
         S : List ℕ
         S = whole x e None Either none-is either-is no-both m
 
-        w : Subset (record { bits = m }) (e .tied) × (sized true (J .cap) (record { bits = m }) ≡ true) × (served (G .T .takers) (c x .tying) true (record { bits = m }) ≡ true)
+        w : Subset (record { bits = m }) (e .tied) × (filled true (J .cap) (record { bits = m }) ≡ true) × (served (G .T .takers) (c x .tying) true (record { bits = m }) ≡ true)
         w = allowed-iff (G .T) e (record { bits = m }) .0 ok
 
         nis : Is (G .n) (record { bits = m }) (λ i. List·Memᴰ i A)
@@ -411,7 +411,7 @@ module _ {G : Given} {C : ℕ} {h : C ≤ G .limit} {k : ℕ} (x : At G C h (suc
       R-set = of-list x e None Either none-is either-is no-both none-in R R-free R-in
 
       R-ok : Ok x e None Either none-is either-is no-both (setOf R .bits)
-      unfolding sized imp
+      unfolding filled imp
       R-ok = allowed-iff (G .T) e (setOf R) .1 (
         list-subset x e None Either none-is either-is no-both none-in R R-free R-in,
         eq-eqb (size (setOf R)) (J .cap) (size-list (G .n-le) R-set R R-once (λ i. (λ m. (R-in i m, m), λ w. w .1)) ∙ full-only J (x .s) (x .t) F H F-is H-is F-once H-once less S mx R R-once R-is),
@@ -433,20 +433,20 @@ module _ {G : Given} {C : ℕ} {h : C ≤ G .limit} {k : ℕ} (x : At G C h (suc
           same = list-part x e None Either none-is either-is no-both none-in R R-free R-in
 
     short-maximal : TriesMaximal J (x .s) (x .t) (triedBelow (G .n) (G .T) e (suc (e .tied .bits)))
-    short-maximal = seats-maximal x e None Either none-is either-is no-both none-in full-number full-numbered
+    short-maximal = numbers-maximal x e None Either none-is either-is no-both none-in full-number full-numbered
 
   -- ---- either way
 
-  pub tries-maximal : TriesMaximal (I x) (x .s) (x .t) (triedBelow (G .n) (G .T) (seats x) (suc (seats x .tied .bits)))
-  unfolding candidatesAt seated
+  pub tries-maximal : TriesMaximal (I x) (x .s) (x .t) (triedBelow (G .n) (G .T) (slotCandidates x) (suc (slotCandidates x .tied .bits)))
+  unfolding candidatesAt withinCap
   tries-maximal = by-choice (λ (d : Candidates). TriesMaximal (I x) (x .s) (x .t) (triedBelow (G .n) (G .T) d (suc (d .tied .bits)))) (leb (size (c x .forced) + size (c x .tying)) (G .T .cap))
       (λ t. fit-maximal (T-leb (size (c x .forced) + size (c x .tying)) (G .T .cap) .0 t))
       (λ t. short-maximal (let l : ¬ (size (c x .forced) + size (c x .tying) ≤ G .T .cap) = λ q. t (T-leb (size (c x .forced) + size (c x .tying)) (G .T .cap) .1 q) in omega arith))
 
   -- the set of an allowed number has jobs alone
-  pub slot-jobs : (m : ℕ) → allowed (G .T) (seats x) (record { bits = m }) ≡ true → OfJobs (G .n) (slotSet (seats x) m)
-  unfolding candidatesAt seated
+  pub slot-jobs : (m : ℕ) → allowed (G .T) (slotCandidates x) (record { bits = m }) ≡ true → OfJobs (G .n) (slotSet (slotCandidates x) m)
+  unfolding candidatesAt withinCap
   slot-jobs = by-choice (λ (d : Candidates). (m : ℕ) → allowed (G .T) d (record { bits = m }) ≡ true → OfJobs (G .n) (slotSet d m)) (leb (size (c x .forced) + size (c x .tying)) (G .T .cap))
-      (λ t m ok. let f = T-leb (size (c x .forced) + size (c x .tying)) (G .T .cap) .0 t in seated-is x (d f) Fo Ti (is-forced x) (is-tied x) (alone f) m ok .bound)
+      (λ t m ok. let f = T-leb (size (c x .forced) + size (c x .tying)) (G .T .cap) .0 t in slot-is x (d f) Fo Ti (is-forced x) (is-tied x) (alone f) m ok .bound)
       (λ t m ok. let l : ¬ (size (c x .forced) + size (c x .tying) ≤ G .T .cap) = λ q. t (T-leb (size (c x .forced) + size (c x .tying)) (G .T .cap) .1 q) in
-          let f : J .cap < size (c x .forced) + size (c x .tying) = omega arith in seated-is x (e f) (None f) (Either f) (none-is f) (either-is f) (no-both f) m ok .bound)
+      let f : J .cap < size (c x .forced) + size (c x .tying) = omega arith in slot-is x (e f) (None f) (Either f) (none-is f) (either-is f) (no-both f) m ok .bound)

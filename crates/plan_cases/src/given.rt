@@ -1,4 +1,4 @@
-// The cases of document 01 whose files are given by their bytes, tag 9 as document 02, request 13, has it, and files for the refusals that it names no case of.
+// The cases of document 01 whose files are given by their bytes (tag 9 as document 02, request 13, has it), and files for the refusals that it names no case of.
 use crate::answers::plan;
 use crate::answers::plan_bytes;
 use crate::answers::plan_short_table;
@@ -36,16 +36,13 @@ fn later_fields() {
     plan(b"6 limit 65", b"\x01\x01\x00\x01\x02\x01\x00\x41");
 }
 
-// These bytes, behind so many of a file. Gives the length with them.
-pub(crate) fn put(file: &mut [u8], from: usize, bytes: &[u8]) -> usize {
-    let mut at = from;
+// Bytes at the front of a file.
+fn put(file: &mut [u8], bytes: &[u8]) {
     let mut i = 0;
-    while i < bytes.len() && at < file.len() {
-        file[at] = bytes[i];
-        at += 1;
+    while i < bytes.len() && i < file.len() {
+        file[i] = bytes[i];
         i += 1;
     }
-    at
 }
 
 // One job, limit 1, and a comment up to the last byte that a file may have.
@@ -53,7 +50,6 @@ fn longest() {
     let mut file = [0; 16384];
     put(
         &mut file,
-        0,
         b"\x01\x01\x00\x01\x02\x01\x00\x01\x03\x03\x00\x0f\x00a\x05\xef\x3f",
     );
     plan(b"a file of 16384 bytes", &file);
@@ -64,7 +60,6 @@ fn too_long() {
     let mut file = [0; 16385];
     put(
         &mut file,
-        0,
         b"\x01\x01\x00\x01\x02\x01\x00\x01\x03\x03\x00\x0f\x00a\x05\xf0\x3f",
     );
     plan(b"2 a file of 16385 bytes", &file);

@@ -1,6 +1,5 @@
 // The cases of document 01, section "Gates on paper", whose files have jobs, and refusals of needs. Needs are pairs of bytes: giver, taker.
 use crate::answers::plan;
-use crate::given::put;
 ghost use Prim.Native.Nat.{_≤_};
 
 // A byte of the needs, 0 behind them.
@@ -9,7 +8,7 @@ fn byte(needs: &[u8], at: usize) -> u8 {
 }
 
 // These needs, behind so many bytes. Gives the length with them.
-fn put_needs(file: &mut [u8; 1222], from: usize, needs: &[u8]) -> usize {
+pub(crate) fn put_needs(file: &mut [u8; 1222], from: usize, needs: &[u8]) -> usize {
     let count = needs.len() / 2;
     let mut at = from;
     let mut i = 0;
@@ -20,22 +19,14 @@ fn put_needs(file: &mut [u8; 1222], from: usize, needs: &[u8]) -> usize {
     at
 }
 
-// So many jobs with these needs, and these bytes behind them.
-pub(crate) fn with_bytes(label: &[u8], limit: u8, jobs: u8, needs: &[u8], bytes: &[u8])
+// So many jobs with these needs.
+pub(crate) fn with_needs(label: &[u8], limit: u8, jobs: u8, needs: &[u8])
     requires { ⌜ jobs ≤ 65 ⌝ }
 {
     let mut file = [0; 1222];
     let end = drafts::put_jobs(&mut file, limit, jobs);
-    let last = put_needs(&mut file, end, needs);
-    let size = put(&mut file, last, bytes);
+    let size = put_needs(&mut file, end, needs);
     plan(label, drafts::front(&file, size));
-}
-
-// So many jobs with these needs.
-fn with_needs(label: &[u8], limit: u8, jobs: u8, needs: &[u8])
-    requires { ⌜ jobs ≤ 65 ⌝ }
-{
-    with_bytes(label, limit, jobs, needs, b"");
 }
 
 // A chain of so many jobs.

@@ -1,4 +1,4 @@
--- Questions 2 to 12: a refusal, or what the rest is given. Assumes nothing.
+-- Questions 2 to 12 and 21: a refusal, or what the rest is given. Assumes nothing.
 use mathlib.Core.Path.{_≡_, refl, sym, ap, ap₂, _∙_}
 use mathlib.Core.Bool.{true, false}
 use mathlib.Core.List.{List, _++_, map}
@@ -33,6 +33,7 @@ use Rattle.windows.specs.declared.JobLevels.{JobLevels}
 use Rattle.windows.specs.Levels.{levelsOf}
 use Rattle.windows.specs.Held.{takers-reversed}
 use Rattle.windows.specs.LevelLaws.{levels-ok}
+use Rattle.explore.specs.Slot.{noCap}
 use Rattle.windows.specs.Windows.{JobWindows, leastOf, windowsOf, fileWindows, widthIn}
 use Rattle.windows.specs.FileWindows.{file-width}
 use Rattle.optimal.specs.OfFile.{least-slots, least-pos}
@@ -48,7 +49,7 @@ use Rattle.planner.specs.Tabled.{answers-refused}
 rounded-up : (n c s : ℕ) → 0 < c → n ≤ s * c → (n + (c - 1)) / c ≤ s
 rounded-up n c s p h = let l : n + (c - 1) < (s + 1) * c = omega (arith, add-mul s 1 c, one-mul c) in omega (arith, div-lt-iff-lt-mul p .1 l)
 
--- ---- questions 2 to 10
+-- ---- questions 2 to 10, and 21
 
 number-refused : {A : Type 0} (r : Answer A) (q : ℕ) → q ≡ numberOf r → (q ≡ 0 → ⊥) → r ≡ refused q
 unfolding numberOf
@@ -133,7 +134,7 @@ module _ (bs : List ℕ) (n L : ℕ) (o g t : List ℕ) (j : JobsRead bs n L o g
           cap-asks h = by-choice
               (λ c. best (size (j .file)) (runsb (size (j .file)) (j .file .needs) c) (j .file .limit) ≡ best (size (j .file)) (runsb (size (j .file)) (j .file .needs) (mostBoards (j .file))) (j .file .limit))
               (leb k (mostBoards (j .file)))
-              (λ t. wide-enough (j .file) (j .keeps) 128 (omega (arith, width-is)) ∙ sym (wide-enough (j .file) (j .keeps) (mostBoards (j .file)) (omega (arith, width-is, T-leb k (mostBoards (j .file)) .0 t))))
+              (λ t. wide-enough (j .file) (j .keeps) noCap (omega (arith, width-is)) ∙ sym (wide-enough (j .file) (j .keeps) (mostBoards (j .file)) (omega (arith, width-is, T-leb k (mostBoards (j .file)) .0 t))))
               (λ t. refl)
 
           -- no circle and not too wide: what the search is given

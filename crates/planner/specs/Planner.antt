@@ -16,6 +16,7 @@ use Rattle.laws.specs.JobFile.{Readable}
 use Rattle.jobset.specs.Arrays.{giversIn, takersIn, releasedIn, followedIn}
 use Rattle.jobfile.specs.Reading.{Held}
 use Rattle.windows.specs.Windows.{fileWindows}
+use Rattle.explore.specs.Slot.{noCap}
 use Rattle.dominance.specs.Count.{AtLeast}
 use Rattle.planner.specs.declared.Planned.{Planned}
 use Rattle.planner.specs.declared.Planned.the-variants.{Table, Refused}
@@ -42,7 +43,7 @@ size f = length (f .jobs)
 
 -- the cap that the search is given for a file of width w and b boards: none where the boards are enough for every slot
 unfoldable pub capOf : ℕ → ℕ → ℕ
-capOf w b = choose (leb w b) 128 b
+capOf w b = choose (leb w b) noCap b
 
 -- the first makespan that it tries: at least as many slots as the windows leave, and as n jobs take
 unfoldable pub firstLength : ℕ → ℕ → ℕ → ℕ

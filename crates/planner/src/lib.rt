@@ -72,7 +72,7 @@ fn first_length(least: usize, jobs: usize, cap: u32) -> usize
     least
 }
 
-// Questions 2 to 12, with full buffers; then the rest. The tables of the file are parts of one array (crate explore says which).
+// Questions 2 to 12 and 21, with full buffers; then the rest. The tables of the file are parts of one array (crate explore says which).
 fn plan_file(file: &[u8], work: &mut [u8], table: &mut [u8]) -> Planned
     requires { ⌜ (52488 ≤ length (now work)) × (1222 ≤ length (now table)) ⌝ }
     ensures { λ r. ⌜ Answers (now (file .entry)) r (now (table .entry)) (now (table .exit)) ⌝ }
@@ -100,7 +100,17 @@ fn plan_file(file: &[u8], work: &mut [u8], table: &mut [u8]) -> Planned
     }
     let cap = cap_of(width, jobfile::most_boards(f.sockets));
     let least = first_length(windows::least(&release, &tail, f.jobs), f.jobs, cap);
-    plan_windows(file, &offsets, &tables, f.jobs, f.limit, cap, least, work, table)
+    plan_windows(
+        file,
+        &offsets,
+        &tables,
+        f.jobs,
+        f.limit,
+        cap,
+        least,
+        work,
+        table,
+    )
 }
 
 // The planner. After every answer but refusal 1 the first 65,536 bytes of the working buffer are zero; the table buffer is changed only

@@ -74,7 +74,7 @@ pub(crate) fn draw_needs(seed: u64, jobs: usize, needs: &mut [u8; 25]) -> u64 {
 
 // The need at a place of the table, where it is there, behind so many bytes; at place 0, which no need has, the field of tag 9. Gives the length with it.
 fn put_if(file: &mut [u8; 1222], sockets: u8, needs: &[u8; 25], place: usize, at: usize) -> usize {
-    if place == 0 && at <= 1217 && sockets != 0 {
+    if place == 0 && at <= 1218 && sockets != 0 {
         return drafts::put_sockets(file, at, sockets);
     }
     if place < 25 && at <= 1217 && needs[place] == 1 {

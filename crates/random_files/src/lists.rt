@@ -2,7 +2,6 @@
 // and of document 02, request 13.
 //
 // A list has a number below 7,776: its starts are the digits in base six, the first job's last. A job that the file does not have starts in slot 0.
-
 use crate::draw::Sizes;
 ghost use Prim.Native.Nat.{_≤_};
 
@@ -118,8 +117,8 @@ fn runs(starts: &[u8; 5], jobs: u8, slot: u8, job: u8) -> u8
 // How many of so many jobs start in the slot.
 fn load(starts: &[u8; 5], jobs: u8, slot: u8) -> u8 {
     let front = runs(starts, jobs, slot, 0) + runs(starts, jobs, slot, 1);
-    let back = runs(starts, jobs, slot, 3) + runs(starts, jobs, slot, 4);
-    front + runs(starts, jobs, slot, 2) + back
+    let back = runs(starts, jobs, slot, 2) + runs(starts, jobs, slot, 3);
+    front + back + runs(starts, jobs, slot, 4)
 }
 
 // The most boards, eight without tag 9.

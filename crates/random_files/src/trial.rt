@@ -97,7 +97,7 @@ fn say(file: &[u8], needs: &[u8; 25], jobs: usize, number: u32, work: &mut [u8; 
     if answer == number { number } else { DIFFERS }
 }
 
-// The place of a count: tables, refused 11, refused 13; the sum of slots stands at 3; differ, check refused; those that tag 9 changed stand at 6.
+// The place of a count: tables, refused 11, refused 13; the sum of slots stands at 3; differ, check refused; changed by tag 9.
 fn place_of(said: u32) -> usize {
     match said {
         CIRCLE => 1,
@@ -128,7 +128,7 @@ fn count(counts: &mut [u64; 7], said: u32) {
     }
 }
 
-// Would the search give another number without tag 9?
+// Does the search give another number without tag 9?
 fn changed(needs: &[u8; 25], sizes: Sizes, number: u32) -> bool {
     let without = Sizes {
         jobs: sizes.jobs,

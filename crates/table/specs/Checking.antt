@@ -47,7 +47,7 @@ module _ (file table : List ℕ) where
   refused-by q e = rw e refl
 
   module _ (F : Counts) (offsets givers takers : List ℕ) (reads : Reads file F offsets givers takers) where
-    -- ---- questions 2 to 10
+    -- ---- questions 2 to 10, and 21
 
     pub file-refused : (F .number ≡ 0 → ⊥) → verdict.Refused (F .number) ≡ verdictOf (check file table)
     unfolding check after numberOf

@@ -216,10 +216,7 @@ fn files() {
     file(b"5 header and comment", b"\x01\x01\x00\x01\x05\x00\x00");
     file(b"5 tag 9 first", b"\x09\x00\x00");
     file(b"5 tag 3 first", b"\x03\x03\x00\x0f\x00a");
-    file(
-        b"4 tag 10",
-        b"\x01\x01\x00\x01\x02\x01\x00\x03\x0a\x00\x00",
-    );
+    file(b"4 tag 10", b"\x01\x01\x00\x01\x02\x01\x00\x03\x0a\x00\x00");
     file(
         b"21 tag 9 twice",
         b"\x01\x01\x00\x01\x02\x01\x00\x03\x09\x01\x00\x02\x09\x01\x00\x02",
@@ -234,7 +231,7 @@ fn files() {
     );
 }
 
-// Starts 0 0 2 on boards 1 2 3, and the example with tag 9.
+// Starts 0 0 2 on three boards, for the example with tag 9 and without.
 fn three_boards() {
     let table =
         b"\x10\x03\x00\x01\x03\x03\x11\x05\x00\x00\x01\x02\x00a\x11\x05\x00\x00\x02\xfe\xffb\x11\x05\x00\x02\x03\x00\x00c";

@@ -1,5 +1,6 @@
 -- `commands::check_table` meets its contract. Assumes nothing.
 use native.Mathlib.Omega.{arith}
+use mathlib.Core.Logic.{inl}
 use Rattle.gate.specs.Laws.{verdict-most}
 use borrow.Author.Needs.{needs}
 use Rattle.commands.proofs.check_table.Statement.{statement}
@@ -15,7 +16,7 @@ write-all-requires : tie.Need-write-all-requires
 write-all-requires c κs = search needs
 
 returns : tie.Need-returns
-returns c = search needs
+returns c = inl (omega arith)
 
 buffer-requires : tie.Need-buffer-requires
 buffer-requires c κs = search needs
@@ -27,7 +28,7 @@ read-argument-requires : tie.Need-read-argument-requires
 read-argument-requires c κs = search needs
 
 returns-2 : tie.Need-returns-2
-returns-2 c = search needs
+returns-2 c = inl (omega arith)
 
 slice-aggregate-read-argument-2 : tie.Need-slice-aggregate-read-argument-2
 slice-aggregate-read-argument-2 c = search needs
@@ -36,7 +37,7 @@ read-argument-requires-2 : tie.Need-read-argument-requires-2
 read-argument-requires-2 c κs = search needs
 
 returns-3 : tie.Need-returns-3
-returns-3 c = search needs
+returns-3 c = inl (omega arith)
 
 array-share-prefix-file : tie.Need-array-share-prefix-file
 array-share-prefix-file c = search needs
@@ -58,7 +59,7 @@ print-verdict-requires c κs = search needs
 
 returns-4 : tie.Need-returns-4
 returns-4 c =
-    omega (arith, c .print-verdict .ensures, verdict-most _ _ _ (c .before .check .ensures))
+    rw (c .print-verdict .ensures) (verdict-most _ _ _ (c .before .check .ensures))
 
 pub check-table-spec : {M : Type 1} → statement M
 check-table-spec =

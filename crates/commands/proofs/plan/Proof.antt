@@ -37,7 +37,7 @@ print-planned-requires c κs = search needs
 
 returns : tie.Need-returns
 returns c =
-    omega (arith, c .print-planned .ensures, planned-most _ _ _ (c .before .before .before .before .plan .result) _ _ (c .before .before .before .before .plan .ensures))
+    rw (c .print-planned .ensures) (planned-most _ _ _ (c .before .before .before .before .plan .result) _ _ (c .before .before .before .before .plan .ensures))
 
 pub plan-spec : {M : Type 1} → statement M
 plan-spec =

@@ -1,5 +1,6 @@
 -- `commands::plan_table` meets its contract. Assumes nothing.
 use native.Mathlib.Omega.{arith}
+use mathlib.Core.Logic.{inl}
 use Rattle.gate.specs.Laws.{planned-most}
 use borrow.Author.Needs.{needs}
 use Rattle.commands.proofs.plan_table.Statement.{statement}
@@ -15,7 +16,7 @@ write-all-requires : tie.Need-write-all-requires
 write-all-requires c κs = search needs
 
 returns : tie.Need-returns
-returns c = search needs
+returns c = inl (omega arith)
 
 large-buffer-requires : tie.Need-large-buffer-requires
 large-buffer-requires c κs = search needs
@@ -27,7 +28,7 @@ read-argument-requires : tie.Need-read-argument-requires
 read-argument-requires c κs = search needs
 
 returns-2 : tie.Need-returns-2
-returns-2 c = search needs
+returns-2 c = inl (omega arith)
 
 array-share-prefix-file : tie.Need-array-share-prefix-file
 array-share-prefix-file c = search needs
@@ -51,7 +52,7 @@ save-requires : tie.Need-save-requires
 save-requires c κs = search needs
 
 returns-3 : tie.Need-returns-3
-returns-3 c = search needs
+returns-3 c = inl (omega arith)
 
 slice-aggregate-print-planned : tie.Need-slice-aggregate-print-planned
 slice-aggregate-print-planned c = search needs
@@ -61,7 +62,7 @@ print-planned-requires c κs = search needs
 
 returns-4 : tie.Need-returns-4
 returns-4 c =
-    omega (arith, c .print-planned .ensures, planned-most _ _ _ (c .before .before .before .before .before .before .before .plan .result) _ _ (c .before .before .before .before .before .before .before .plan .ensures))
+    rw (c .print-planned .ensures) (planned-most _ _ _ (c .before .before .before .before .before .before .before .plan .result) _ _ (c .before .before .before .before .before .before .before .plan .ensures))
 
 pub plan-table-spec : {M : Type 1} → statement M
 plan-table-spec =

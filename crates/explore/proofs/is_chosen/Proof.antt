@@ -11,17 +11,17 @@ use Rattle.jobset.specs.declared.Set.{Set}
 use Rattle.jobset.specs.Sets.{setAt, intersection, without, members}
 use Rattle.jobset.specs.Arrays.{takersIn, taker-set}
 use Rattle.jobset.specs.Members.{Turn, turn, end}
-use Rattle.explore.specs.Slot.{suits, served, sized, chosen}
+use Rattle.explore.specs.Slot.{oneOrFull, served, filled, chosen}
 use Rattle.explore.proofs.is_chosen.Statement.{statement}
 use Rattle.explore.proofs.is_chosen.Tie as tie
 
--- do the takers of job i in the subset suit?
-abbrev suited : List ℕ → Bool → Set → ℕ → Bool
-suited takers full subset i = suits full (intersection subset (setAt takers i))
+-- is one taker of job i in the subset, or none in a full slot?
+abbrev oneTaker : List ℕ → Bool → Set → ℕ → Bool
+oneTaker takers full subset i = oneOrFull full (intersection subset (setAt takers i))
 
 abbrev Inv-loop : tie.InvT-loop
 Inv-loop tables full cap subset rest₀ rest =
-    (rest .bits < 2 ^ 64) × (sized full cap subset ≡ true) × (all (suited (takersIn tables) full subset) (members rest) ≡ served (takersIn tables) rest₀ full subset)
+    (rest .bits < 2 ^ 64) × (filled full cap subset ≡ true) × (all (oneTaker (takersIn tables) full subset) (members rest) ≡ served (takersIn tables) rest₀ full subset)
 
 abbrev μ-loop : tie.MeasureT-loop
 μ-loop tables full cap subset rest₀ rest = rest .bits
@@ -32,32 +32,32 @@ turned c = turn (c .before .before .before .loop .rest) (c .before .before .is-e
 
 -- the test of each job, where it stands in a turn
 abbrev test : (c : tie.Start Inv-loop μ-loop) → ℕ → Bool
-test c = suited (takersIn (c .args .tables .now)) (c .args .full) (c .args .subset)
+test c = oneTaker (takersIn (c .args .tables .now)) (c .args .full) (c .args .subset)
 
 -- the turn's job, and those after it
-split : (c : tie.After-is-suited Inv-loop μ-loop) → (c .is-suited .result && all (test (c .before .before .before .before .before .before .before .before .before)) (members (without (c .before .before .before .before .before .before .loop .rest) (c .before .before .before .lowest .result)))) ≡ all (test (c .before .before .before .before .before .before .before .before .before)) (members (c .before .before .before .before .before .before .loop .rest))
+split : (c : tie.After-is-one-or-full Inv-loop μ-loop) → (c .is-one-or-full .result && all (test (c .before .before .before .before .before .before .before .before .before)) (members (without (c .before .before .before .before .before .before .loop .rest) (c .before .before .before .lowest .result)))) ≡ all (test (c .before .before .before .before .before .before .before .before .before)) (members (c .before .before .before .before .before .before .loop .rest))
 unfolding all
-split c = rw (turned (c .before .before .before) .first, suits-it)
+split c = rw (turned (c .before .before .before) .first, it-is)
   where
-    suits-it : test (c .before .before .before .before .before .before .before .before .before) (c .before .before .before .lowest .result) ≡ c .is-suited .result
-    suits-it = rw (taker-set (c .before .before .before .before .before .before .before .before .before .args .tables .now) (c .before .before .before .lowest .result) (turned (c .before .before .before) .below-64), ← (c .before .intersection .ensures)) (sym (c .is-suited .ensures))
+    it-is : test (c .before .before .before .before .before .before .before .before .before) (c .before .before .before .lowest .result) ≡ c .is-one-or-full .result
+    it-is = rw (taker-set (c .before .before .before .before .before .before .before .before .before .args .tables .now) (c .before .before .before .lowest .result) (turned (c .before .before .before) .below-64), ← (c .before .intersection .ensures)) (sym (c .is-one-or-full .ensures))
 
 -- whether the subset, of the right size, is chosen
-found : (c : tie.Start Inv-loop μ-loop) → sized (c .args .full) (c .args .cap) (c .args .subset) ≡ true
+found : (c : tie.Start Inv-loop μ-loop) → filled (c .args .full) (c .args .cap) (c .args .subset) ≡ true
     → served (takersIn (c .args .tables .now)) (c .args .tying) (c .args .full) (c .args .subset) ≡ chosen (takersIn (c .args .tables .now)) (c .args .tying) (c .args .full) (c .args .cap) (c .args .subset)
 unfolding chosen
 found c e = rw e
 
-has-size-requires : tie.Need-has-size-requires Inv-loop μ-loop
-has-size-requires c κs = tt
+is-filled-requires : tie.Need-is-filled-requires Inv-loop μ-loop
+is-filled-requires c κs = tt
 
 returns : tie.Need-returns Inv-loop μ-loop
 unfolding chosen
-returns c = rw (sym (c .before .has-size .ensures) ∙ not-true (c .before .has-size .result) (c .if1 .taken))
+returns c = rw (sym (c .before .is-filled .ensures) ∙ not-true (c .before .is-filled .result) (c .if1 .taken))
 
 loop-holds : tie.Need-loop-holds Inv-loop μ-loop
 unfolding served
-loop-holds c = (search needs, sym (c .before .has-size .ensures) ∙ not-false (c .before .has-size .result) (c .if1 .left), refl)
+loop-holds c = (search needs, sym (c .before .is-filled .ensures) ∙ not-false (c .before .is-filled .result) (c .if1 .left), refl)
 
 is-empty-requires : tie.Need-is-empty-requires Inv-loop μ-loop
 is-empty-requires c κs = tt
@@ -80,11 +80,11 @@ element-copy-out-t18 c = omega (arith, turned c .below-64)
 intersection-requires : tie.Need-intersection-requires Inv-loop μ-loop
 intersection-requires c κs = tt
 
-is-suited-requires : tie.Need-is-suited-requires Inv-loop μ-loop
-is-suited-requires c κs = tt
+is-one-or-full-requires : tie.Need-is-one-or-full-requires Inv-loop μ-loop
+is-one-or-full-requires c κs = tt
 
 returns-2 : tie.Need-returns-2 Inv-loop μ-loop
-returns-2 c = rw (not-true (c .before .is-suited .result) (c .if3 .taken)) at (split (c .before)) ∙ c .before .before .before .before .before .before .before .loop .inv .2 ∙ found (c .before .before .before .before .before .before .before .before .before .before) (c .before .before .before .before .before .before .before .loop .inv .1)
+returns-2 c = rw (not-true (c .before .is-one-or-full .result) (c .if3 .taken)) at (split (c .before)) ∙ c .before .before .before .before .before .before .before .loop .inv .2 ∙ found (c .before .before .before .before .before .before .before .before .before .before) (c .before .before .before .before .before .before .before .loop .inv .1)
 
 rest-requires : tie.Need-rest-requires Inv-loop μ-loop
 rest-requires c κs = turned (c .before .before .before .before) .not-empty
@@ -96,7 +96,7 @@ loop-again : tie.Need-loop-again Inv-loop μ-loop
 loop-again c = (
   search needs,
   c .before .before .before .before .before .before .before .before .loop .inv .1,
-  rw (c .rest .ensures ∙ turned (c .before .before .before .before .before) .rest-is) (rw (not-false (c .before .before .is-suited .result) (c .before .if3 .left)) at (split (c .before .before)) ∙ c .before .before .before .before .before .before .before .before .loop .inv .2),
+  rw (c .rest .ensures ∙ turned (c .before .before .before .before .before) .rest-is) (rw (not-false (c .before .before .is-one-or-full .result) (c .before .if3 .left)) at (split (c .before .before)) ∙ c .before .before .before .before .before .before .before .before .loop .inv .2),
 )
 
 returns-3 : tie.Need-returns-3 Inv-loop μ-loop
@@ -111,7 +111,7 @@ is-chosen-spec =
     (tie.spec
     Inv-loop
     μ-loop
-    has-size-requires
+    is-filled-requires
     returns
     loop-holds
     is-empty-requires
@@ -121,7 +121,7 @@ is-chosen-spec =
     mul-t15
     element-copy-out-t18
     intersection-requires
-    is-suited-requires
+    is-one-or-full-requires
     returns-2
     rest-requires
     loop-less

@@ -69,18 +69,15 @@ mul-t18 c = search needs
 element-copy-out-t21 : tie.Need-element-copy-out-t21
 element-copy-out-t21 c = search needs
 
-has-requires : tie.Need-has-requires
-has-requires c κs = search needs
+with-requires : tie.Need-with-requires
+with-requires c κs = search needs
 
 refused-requires-4 : tie.Need-refused-requires-4
 refused-requires-4 c κs = search needs
 
 returns-4 : tie.Need-returns-4
 returns-4 c =
-    (λ o. need-refused (c .before .before .before .before .before .before .before .before .before .before .before .before .before .before .args .c) o _ _ _ _ _ _ (c .before .before .before .before .before .before .before .before .before .before .before .wide .ensures) (c .before .before .before .before .before .before .before .before .before .wide2 .ensures) _ _ _ 9 (known-in (c .before .before .before .before .before .before .before .before .before .before .before .before .before .before .args .c) o (c .before .before .before .before .before .before .before .before .before .before .before .before .before .before .args .tables .now) _ _ (sym (c .before .before .before .before .before .before .before .before .is-job .ensures) ∙ not-false _ (c .before .before .before .before .before .before .before .if1 .left)) (sym (c .before .before .before .before .before .before .is-job2 .ensures) ∙ not-false _ (c .before .before .before .before .before .if2 .left)) (c .before .before .before .before .if3 .left) (sym (c .before .before .has .ensures) ∙ c .before .if4 .taken)) (c .refused4 .ensures) (λ e. omega arith), refl)
-
-with-requires : tie.Need-with-requires
-with-requires c κs = search needs
+    (λ o. need-refused (c .before .before .before .before .before .before .before .before .before .before .before .before .before .before .before .before .args .c) o _ _ _ _ _ _ (c .before .before .before .before .before .before .before .before .before .before .before .before .before .wide .ensures) (c .before .before .before .before .before .before .before .before .before .before .before .wide2 .ensures) _ _ _ 9 (known-in (c .before .before .before .before .before .before .before .before .before .before .before .before .before .before .before .before .args .c) o (c .before .before .before .before .before .before .before .before .before .before .before .before .before .before .before .before .args .tables .now) _ _ (sym (c .before .before .before .before .before .before .before .before .before .before .is-job .ensures) ∙ not-false _ (c .before .before .before .before .before .before .before .before .before .if1 .left)) (sym (c .before .before .before .before .before .before .before .before .is-job2 .ensures) ∙ not-false _ (c .before .before .before .before .before .before .before .if2 .left)) (c .before .before .before .before .before .before .if3 .left) _ (c .before .before .before .before .with .ensures) (c .before .if4 .taken)) (c .refused4 .ensures) (λ e. omega arith), refl)
 
 mul-tables : tie.Need-mul-tables
 mul-tables c = search needs
@@ -91,8 +88,8 @@ element-write-tables c = search needs
 add-t18 : tie.Need-add-t18
 add-t18 c = search needs
 
-mul-t25 : tie.Need-mul-t25
-mul-t25 c = search needs
+mul-t24 : tie.Need-mul-t24
+mul-t24 c = search needs
 
 element-copy-out-t21-2 : tie.Need-element-copy-out-t21-2
 element-copy-out-t21-2 c = search needs
@@ -114,7 +111,7 @@ add-t18-2 c = search needs
 
 returns-5 : tie.Need-returns-5
 returns-5 c =
-    (λ o. need-taken (c .before .before .before .before .before .before .before .before .before .before .before .before .before .before .before .before .before .args .c) o _ _ _ _ _ _ (c .before .before .before .before .before .before .before .before .before .before .before .before .before .before .wide .ensures) (c .before .before .before .before .before .before .before .before .before .before .before .before .wide2 .ensures) _ _ _ _ (new-in (c .before .before .before .before .before .before .before .before .before .before .before .before .before .before .before .before .before .args .c) o (c .before .before .before .before .before .before .before .before .before .before .before .before .before .before .before .before .before .args .tables .now) _ _ (sym (c .before .before .before .before .before .before .before .before .before .before .before .is-job .ensures) ∙ not-false _ (c .before .before .before .before .before .before .before .before .before .before .if1 .left)) (sym (c .before .before .before .before .before .before .before .before .before .is-job2 .ensures) ∙ not-false _ (c .before .before .before .before .before .before .before .before .if2 .left)) (c .before .before .before .before .before .before .before .if3 .left) (sym (c .before .before .before .before .before .has .ensures) ∙ c .before .before .before .before .if4 .left)) refl (simp (c .before .before .before .with .ensures, c .before .with2 .ensures)), search needs)
+    (λ o. need-taken (c .before .before .before .before .before .before .before .before .before .before .before .before .before .before .before .before .before .before .args .c) o _ _ _ _ _ _ (c .before .before .before .before .before .before .before .before .before .before .before .before .before .before .before .wide .ensures) (c .before .before .before .before .before .before .before .before .before .before .before .before .before .wide2 .ensures) _ _ _ _ (new-in (c .before .before .before .before .before .before .before .before .before .before .before .before .before .before .before .before .before .before .args .c) o (c .before .before .before .before .before .before .before .before .before .before .before .before .before .before .before .before .before .before .args .tables .now) _ _ (sym (c .before .before .before .before .before .before .before .before .before .before .before .before .is-job .ensures) ∙ not-false _ (c .before .before .before .before .before .before .before .before .before .before .before .if1 .left)) (sym (c .before .before .before .before .before .before .before .before .before .before .is-job2 .ensures) ∙ not-false _ (c .before .before .before .before .before .before .before .before .before .if2 .left)) (c .before .before .before .before .before .before .before .before .if3 .left) _ (c .before .before .before .before .before .before .with .ensures) (c .before .before .before .if4 .left)) refl (simp (c .before .before .before .before .before .before .with .ensures, c .before .with2 .ensures)), search needs)
 
 pub take-need-spec : {M : Type 1} → statement M
 take-need-spec =
@@ -138,14 +135,13 @@ take-need-spec =
     sub-k-2
     mul-t18
     element-copy-out-t21
-    has-requires
+    with-requires
     refused-requires-4
     returns-4
-    with-requires
     mul-tables
     element-write-tables
     add-t18
-    mul-t25
+    mul-t24
     element-copy-out-t21-2
     with-requires-2
     add-tables

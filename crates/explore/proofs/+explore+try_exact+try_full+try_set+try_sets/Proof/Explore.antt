@@ -85,7 +85,7 @@ module _ (t : ℕ) where
   returns-2 c =
       let s = c .before .before .before .before .before in
       rw (explored-late (T s) (s .args .slot) (s .args .done) (s .args .last) (s .args .dead .now) (s .args .left) (not-done (c .before .before))
-          (due-done-is (c .before) ∙ not-true (c .before .are-done2 .result) (c .if2 .taken))) (refl, (refl, refl))
+      (due-done-is (c .before) ∙ not-true (c .before .are-done2 .result) (c .if2 .taken))) (refl, (refl, refl))
 
   pub key-of-requires : explore-lts.Need-key-of-requires (explore-claims t) (explore-at t) explore.Post
   key-of-requires c κs = let s = c .before .before .before .before .before in (omega arith, omega arith, s .pre .1 .2 .held (s .args .left) (s .args .slot) refl)

@@ -26,6 +26,7 @@ use Rattle.explore.proofs.is_chosen.Reads as is-chosen-reads
 use Rattle.explore.proofs.key_of.Reads as key-of-reads
 use Rattle.jobset.proofs.Set.is_empty.Reads as is-empty-reads
 use Rattle.jobset.proofs.Set.next_below.Reads as next-below-reads
+use Rattle.jobset.proofs.Set.next_fit.Reads as next-fit-reads
 use Rattle.jobset.proofs.Set.union.Reads as union-reads
 use Rattle.jobset.proofs.Set.upper.Reads as upper-reads
 
@@ -98,7 +99,7 @@ try-exact-claims t = (try-set-below t, try-set.Post, is-empty-reads.Asked, is-em
 
 abbrev pub try-full-claims : ℕ → try-full-lts.Claims
 try-full-claims t =
-    (upper-reads.Asked, upper-reads.Learnt, try-set-below t, try-set.Post, is-empty-reads.Asked, is-empty-reads.Learnt, next-below-reads.Asked, next-below-reads.Learnt)
+    (upper-reads.Asked, upper-reads.Learnt, try-set-below t, try-set.Post, is-empty-reads.Asked, is-empty-reads.Learnt, next-fit-reads.Asked, next-fit-reads.Learnt)
 
 abbrev pub try-set-claims : ℕ → try-set-lts.Claims
 try-set-claims t = (is-chosen-reads.Asked, is-chosen-reads.Learnt, union-reads.Asked, union-reads.Learnt, explore-below t, explore.Post)

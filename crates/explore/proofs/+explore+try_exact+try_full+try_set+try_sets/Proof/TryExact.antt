@@ -1,4 +1,5 @@
 -- `explore::try_exact` meets its contract: the tries from here on answer as all tries. Assumes nothing.
+use borrow.Author.Needs.{needs}
 use native.Mathlib.Omega.{arith}
 use mathlib.Core.Path.{_≡_, refl, sym, ap, _∙_}
 use mathlib.Core.Bool.{true, false, not}
@@ -9,7 +10,7 @@ use Rattle.rules.specs.Basics.{choose}
 use Rattle.jobset.specs.declared.Set.{Set}
 use Rattle.jobset.specs.Sets.{nextBelow}
 use Rattle.explore.specs.declared.Candidates.{Candidates}
-use Rattle.explore.specs.Slot.{Tables, tablesIn, fitted}
+use Rattle.explore.specs.Slot.{Tables, tablesIn, firstTried, nextTried}
 use Rattle.explore.specs.Model.{Explored, written}
 use Rattle.explore.specs.Steps.{count, count-less, attempted, Going, going-start, going-hit, going-on, going-end}
 use Rattle.explore.proofs.try_exact.Reads as try-exact
@@ -22,10 +23,14 @@ Inv tables dead₀ done candidates left slot path₀ cap tried₀ more₀ dead p
 abbrev pub μ : try-exact-lts.MeasureT-loop
 μ tables dead₀ done candidates left slot path₀ cap tried₀ more₀ dead path tried more = count more tried
 
--- every set of a slot that is not full is tried
-all-fit : (c : Candidates) → c .full ≡ false → (cap : ℕ) (s : Set) → fitted (c .full) cap s ≡ s
-unfolding fitted choose
-all-fit c e cap s = rw e
+-- the first set and the next of a slot that is not full
+first-is : (c : Candidates) → c .full ≡ false → (cap : ℕ) (tied : Set) → firstTried (c .full) cap tied ≡ tied
+unfolding firstTried choose
+first-is c e cap tied = rw e
+
+next-is : (c : Candidates) → c .full ≡ false → (cap : ℕ) (tied s : Set) → nextTried (c .full) cap tied s ≡ nextBelow s tied
+unfolding nextTried choose
+next-is c e cap tied s = rw e
 
 module _ (t : ℕ) where
   abbrev Start : Type 0
@@ -39,15 +44,15 @@ module _ (t : ℕ) where
   attempt s tried dead = attempted (T s) (s .args .left) (s .args .slot) (s .args .done) (s .args .candidates) tried dead
 
   -- the turn goes on
-  going : (c : try-exact-lts.In-loop (try-exact-claims t) (try-exact-at t) try-exact.Post Inv μ)
-      → let s = c .before .before .before .before in Going (T s) (s .args .left) (s .args .slot) (s .args .done) (s .args .candidates) (s .args .dead .now) (s .args .path .now) (c .before .loop .dead) (c .before .loop .path) (c .before .loop .tried) true
+  going : (c : try-exact-lts.In-loop (try-exact-claims t) (try-exact-at t) try-exact.Post Inv μ) → let s = c .before .before .before .before in
+      Going (T s) (s .args .left) (s .args .slot) (s .args .done) (s .args .candidates) (s .args .dead .now) (s .args .path .now) (c .before .loop .dead) (c .before .loop .path) (c .before .loop .tried) true
   going c = rw (c .loop-test .taken) at (c .before .loop .inv)
 
   pub loop-holds : try-exact-lts.Need-loop-holds (try-exact-claims t) (try-exact-at t) try-exact.Post Inv μ
   loop-holds c =
       let s = c .before .before in
-      going-start (T s) (s .args .left) (s .args .slot) (s .args .done) (s .args .candidates) (s .args .dead .now) (s .args .path .now) _
-      (sym (all-fit (s .args .candidates) (s .pre .1 .0) (s .args .cap) (s .args .candidates .tied)))
+      going-start (T s) (s .args .left) (s .args .slot) (s .args .done) (s .args .candidates) (s .args .dead .now) (s .args .path .now) _ (search needs)
+      (sym (first-is (s .args .candidates) (s .pre .1 .0) (s .args .cap) (s .args .candidates .tied)))
 
   pub try-set-requires : try-exact-lts.Need-try-set-requires (try-exact-claims t) (try-exact-at t) try-exact.Post Inv μ
   try-set-requires c κs =
@@ -76,16 +81,14 @@ module _ (t : ℕ) where
   next-below-requires c κs = tt
 
   -- on to the next subset
-  next-is : (c : try-exact-lts.After-next-below (try-exact-claims t) (try-exact-at t) try-exact.Post Inv μ)
-      → c .next-below .result ≡ fitted (c .before .before .before .before .before .before .before .before .before .before .before .before .args .candidates .full) (c .before .before .before .before .before .before .before .before .before .before .before .before .args .cap) (nextBelow (c .before .before .before .before .before .before .before .before .before .loop .tried) (c .before .before .before .before .before .before .before .before .before .before .before .before .args .candidates .tied))
-  next-is c =
-      let s = c .before .before .before .before .before .before .before .before .before .before .before .before in
-      c .next-below .ensures ∙ sym (all-fit (s .args .candidates) (s .pre .1 .0) (s .args .cap) (nextBelow (c .before .before .before .before .before .before .before .before .before .loop .tried) (s .args .candidates .tied)))
+  next-tried : (c : try-exact-lts.After-next-below (try-exact-claims t) (try-exact-at t) try-exact.Post Inv μ)
+      → let s = c .before .before .before .before .before .before .before .before .before .before .before .before in c .next-below .result ≡ nextTried (s .args .candidates .full) (s .args .cap) (s .args .candidates .tied) (c .before .before .before .before .before .before .before .before .before .loop .tried)
+  next-tried c = let s = c .before .before .before .before .before .before .before .before .before .before .before .before in c .next-below .ensures ∙ sym (next-is (s .args .candidates) (s .pre .1 .0) (s .args .cap) (s .args .candidates .tied) (c .before .before .before .before .before .before .before .before .before .loop .tried))
 
   pub loop-less : try-exact-lts.Need-loop-less (try-exact-claims t) (try-exact-at t) try-exact.Post Inv μ
   loop-less c =
       let s = c .before .before .before .before .before .before .before .before .before .before .before .before in
-      rw (c .before .before .before .before .before .before .before .before .loop-test .taken, c .before .is-empty .ensures, next-is c) (count-less (s .args .candidates .full) (s .args .cap) (c .before .before .before .before .before .before .before .before .before .loop .tried) (s .args .candidates .tied))
+      rw (c .before .before .before .before .before .before .before .before .loop-test .taken, c .before .is-empty .ensures, next-tried c) (count-less (s .args .candidates .full) (s .args .cap) (c .before .before .before .before .before .before .before .before .before .loop .tried) (s .args .candidates .tied))
 
   pub loop-again : try-exact-lts.Need-loop-again (try-exact-claims t) (try-exact-at t) try-exact.Post Inv μ
   loop-again c =
@@ -94,7 +97,7 @@ module _ (t : ℕ) where
       let q = c .before .before .before .before .before .try-set .ensures in
       let o : attempt s (l .tried) (l .dead) .plan .ok ≡ false = sym (q .0) ∙ c .before .before .if1 .left in
       going-on (T s) (s .args .left) (s .args .slot) (s .args .done) (s .args .candidates) (s .args .dead .now) (s .args .path .now) (l .dead) (l .path) (l .tried) (going (c .before .before .before .before .before .before .before .before)) o
-      _ _ _ _ (q .1 .1) (c .before .before .before .before .before .try-set .kept .1 .0) (q .1 .0) (next-is c) (ap not (c .before .is-empty .ensures))
+      _ _ _ _ (q .1 .1) (c .before .before .before .before .before .try-set .kept .1 .0) (q .1 .0) (search needs) (next-tried c) (ap not (c .before .is-empty .ensures))
 
   pub same-length-2 : try-exact-lts.Need-same-length-2 (try-exact-claims t) (try-exact-at t) try-exact.Post Inv μ
   same-length-2 c = c .before .loop .inv .len

@@ -86,7 +86,7 @@ module _ (t : ℕ) where
       let a = chosen-is (c .before .before .before .before .before .before .before .before .before) ∙ not-false (c .before .before .before .before .before .before .before .before .before .is-chosen .result) (c .before .before .before .before .before .before .before .before .if1 .left) in
       let o : follows s .plan .ok ≡ true = ap (λ (x : Explored). x .plan .ok) (sym e) ∙ sym (q .0) ∙ c .if2 .taken in
       let p : c .before .before .before .explore .last .1 .1 .1 .1 .1 .1 .0 ≡ written (s .args .slot + 1) (follows s .plan .sets) (s .args .path .now) =
-          q .1 .0 ∙ ap (λ (x : Explored). written (s .args .slot + 1) (x .plan .sets) (s .args .path .now)) e in
+      q .1 .0 ∙ ap (λ (x : Explored). written (s .args .slot + 1) (x .plan .sets) (s .args .path .now)) e in
       rw (a, o) (refl, (rw (p, c .before .before .before .before .before .before .before .union .ensures), q .1 .1 ∙ ap (λ (x : Explored). x .dead) e))
 
   pub same-length-2 : try-set-lts.Need-same-length-2 (try-set-claims t) (try-set-at t) try-set.Post
@@ -104,5 +104,5 @@ module _ (t : ℕ) where
       let jobs = slotSet (s .args .candidates) (s .args .subset .bits) in
       let n : follows s .plan ≡ noPlan = no-sets (T s) (s .args .left - 1) (s .args .slot + 1) (union (s .args .done) jobs) jobs (s .args .dead .now) o in
       let p : c .before .before .before .explore .last .1 .1 .1 .1 .1 .1 .0 ≡ s .args .path .now =
-          q .1 .0 ∙ ap (λ (x : Explored). written (s .args .slot + 1) (x .plan .sets) (s .args .path .now)) e ∙ rw n in
+      q .1 .0 ∙ ap (λ (x : Explored). written (s .args .slot + 1) (x .plan .sets) (s .args .path .now)) e ∙ rw n in
       rw (a, o) (refl, (p, q .1 .1 ∙ ap (λ (x : Explored). x .dead) e))

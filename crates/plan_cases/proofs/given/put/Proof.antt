@@ -7,11 +7,11 @@ use Rattle.plan_cases.proofs.given.put.Statement.{statement}
 use Rattle.plan_cases.proofs.given.put.Tie as tie
 
 abbrev Inv-loop : tie.InvT-loop
-Inv-loop file₀ from bytes at₀ i₀ file at i =
+Inv-loop file₀ bytes i₀ file i =
     length file ≡ length file₀
 
 abbrev μ-loop : tie.MeasureT-loop
-μ-loop file₀ from bytes at₀ i₀ file at i =
+μ-loop file₀ bytes i₀ file i =
     length bytes - i
 
 loop-holds : tie.Need-loop-holds Inv-loop μ-loop
@@ -22,9 +22,6 @@ shared-slice-read-file c = search needs
 
 slice-write-file : tie.Need-slice-write-file Inv-loop μ-loop
 slice-write-file c = search needs
-
-add-at : tie.Need-add-at Inv-loop μ-loop
-add-at c = search needs
 
 add-i : tie.Need-add-i Inv-loop μ-loop
 add-i c = search needs
@@ -56,7 +53,6 @@ put-spec =
     loop-holds
     shared-slice-read-file
     slice-write-file
-    add-at
     add-i
     loop-less
     loop-again

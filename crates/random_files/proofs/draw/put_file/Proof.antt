@@ -5,11 +5,11 @@ use Rattle.random_files.proofs.draw.put_file.Statement.{statement}
 use Rattle.random_files.proofs.draw.put_file.Tie as tie
 
 abbrev Inv-loop : tie.InvT-loop
-Inv-loop file₀ limit jobs needs first at₀ k₀ file at k =
+Inv-loop file₀ sizes needs first at₀ k₀ file at k =
     k ≤ 25
 
 abbrev μ-loop : tie.MeasureT-loop
-μ-loop file₀ limit jobs needs first at₀ k₀ file at k =
+μ-loop file₀ sizes needs first at₀ k₀ file at k =
     25 - k
 
 put-jobs-requires : tie.Need-put-jobs-requires Inv-loop μ-loop

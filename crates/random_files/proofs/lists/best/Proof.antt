@@ -5,11 +5,11 @@ use Rattle.random_files.proofs.lists.best.Statement.{statement}
 use Rattle.random_files.proofs.lists.best.Tie as tie
 
 abbrev Inv-loop : tie.InvT-loop
-Inv-loop needs limit jobs many best₀ number₀ best number =
+Inv-loop needs sizes many best₀ number₀ best number =
     Unit {0}
 
 abbrev μ-loop : tie.MeasureT-loop
-μ-loop needs limit jobs many best₀ number₀ best number =
+μ-loop needs sizes many best₀ number₀ best number =
     many - number
 
 circle-requires : tie.Need-circle-requires Inv-loop μ-loop
