@@ -274,7 +274,7 @@ fn try_exact(
     false
 }
 
-// The same of a full slot: subsets with more jobs than it takes are passed over, and most of those with fewer.
+// The same of a full slot: subsets with more jobs than it takes are passed over, and some of those with fewer.
 fn try_full(
     tables: &[u64; 260],
     dead: &mut [u8],

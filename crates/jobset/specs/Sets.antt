@@ -90,7 +90,7 @@ lessLowest (suc k) s = lessLowest k (nextBelow s s)
 unfoldable pub upper : ℕ → Set → Set
 upper most s = lessLowest (size s - most) s
 
--- of the subset s of t, a smaller subset of t such that none of just so many members lies between them (law `next-fit`): the next
+-- of the subset s of t, with a member, a smaller subset of t; none of just so many members lies between them (law `next-fit`): the next
 -- subset without its lowest members, or, where it has too few, s without its lowest member
 unfoldable pub nextFit : ℕ → Set → Set → Set
 nextFit most s t = choose (ltb (size (nextBelow s t)) most) (nextBelow s s) (upper most (nextBelow s t))

@@ -172,7 +172,7 @@ impl Set {
         }
     }
 
-    // Its highest members, at most so many: the next smaller set with no more.
+    // Its highest members, at most so many.
     pub fn upper(self, most: u32) -> Set
         ensures { λ r. ⌜ r ≡ upper most self ⌝ }
     {
@@ -189,7 +189,7 @@ impl Set {
         highest
     }
 
-    // Of a subset of `whole`, a smaller one: no subset with just `count` members lies between them.
+    // Of a subset of `whole` with a member, a smaller one: no subset with just `count` members lies between them.
     pub fn next_fit(self, whole: Set, count: u32) -> Set
         ensures { λ r. ⌜ r ≡ nextFit count self whole ⌝ }
     {
