@@ -23,7 +23,7 @@ use Rattle.laws.specs.Tests.{T-leb, T-eqb}
 use Rattle.laws.specs.Lists.{nth-mem, tabulate-at, length-tabulate, map-tabulate-list}
 use Rattle.laws.specs.Counting.{at-largest}
 use Rattle.laws.specs.Numbers.{centimetres-in}
-use Rattle.laws.specs.Fields.{ask-yes}
+use Rattle.laws.specs.Fields.{ask-yes, ask-no}
 use Rattle.laws.specs.JobFile.{Readable}
 use Rattle.laws.specs.Program.{program-is}
 use Rattle.laws.specs.Circles.{circle-free}
@@ -49,6 +49,13 @@ module _ (f : JobFile) (ok : Readable f) where
       → best (length (f .jobs)) (runsb (length (f .jobs)) (f .needs) c) (f .limit) ≡ best (length (f .jobs)) (keptb (f .needs)) (f .limit)
   wide-enough c h = best-uncapped (length (f .jobs)) (f .needs) c (f .limit) (λ u k l.
       capped-more (length (f .jobs)) (width (length (f .jobs)) (f .needs) (f .limit)) c u h (width-capped (length (f .jobs)) (f .needs) needs-in u (l .len) k (f .limit) l))
+
+  -- without a circle and wider than eight it gets 12
+  pub too-wide : ¬ (Circle (f .needs)) → maxWidth < width (length (f .jobs)) (f .needs) (f .limit) → planTable f ≡ refused 12
+  unfolding planTable
+  too-wide free wide =
+      ask-yes (circleFree (length (f .jobs)) (f .needs)) 11 _ (circle-free (length (f .jobs)) (f .needs) needs-in .1 free)
+      ∙ ask-no (leb (width (length (f .jobs)) (f .needs) (f .limit)) maxWidth) 12 _ (λ h. omega (arith, wide, T-leb (width (length (f .jobs)) (f .needs) (f .limit)) maxWidth .0 h))
 
   module _ (free : ¬ (Circle (f .needs))) (narrow : width (length (f .jobs)) (f .needs) (f .limit) ≤ maxWidth) where
     -- the questions before 13 are yes
