@@ -5,3 +5,4 @@ pub mod Others
 pub mod Computed
 pub mod Chains
 pub mod Cases
+pub mod Extras

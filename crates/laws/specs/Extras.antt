@@ -2,7 +2,7 @@
 -- the gate alone, every job of the gate keeps its start. Assumes nothing.
 use mathlib.Core.Path.{_≡_, refl, sym, ap, _∙_}
 use mathlib.Core.Logic.{_⊎_, inl, inr, ⊎-elim, _↔_}
-use mathlib.Core.List.{List, [], _∷_, _++_}
+use mathlib.Core.List.{List, [], _∷_, _++_, map, List·Memᴰ, List·Memᴰ·append-cases, Memᴰ·append-left, Memᴰ·append-right}
 use mathlib.Core.Option.{some}
 use Prim.Native.Nat.{ℕ, _+_, _-_, _≤_, _<_, max}
 use native.Mathlib.Omega.{arith}
@@ -13,6 +13,7 @@ use Rattle.rules.specs.Basics.{at, largest}
 use Rattle.rules.specs.Needs.{Need, Gives, NeedsIn, Circle}
 use Rattle.rules.specs.Program.{slots, Fits, Kept}
 use Rattle.rules.specs.Preference.{Preferred}
+use Rattle.laws.specs.Lists.{map-mem, map-mem⁻¹}
 use Rattle.laws.specs.Program.{slots-fits, fits-slots, slots-pos}
 use Rattle.laws.specs.Preference.{Weak-antisym}
 use Rattle.laws.specs.Best.{NoWorse, BestWithin}
@@ -24,6 +25,29 @@ pub record DisjointUnion (n : ℕ) (gate extras whole : List Need) : Type 0 wher
   pub gate-needs : (g k : ℕ) → g < n → k < n → Gives whole g k ↔ Gives gate g k
   pub extra-needs : (g k : ℕ) → Gives whole (n + g) (n + k) ↔ Gives extras g k
   pub apart : (g k : ℕ) → Gives whole g k → ((g < n) × (k < n)) ⊎ ((n ≤ g) × (n ≤ k))
+
+-- needs counted from n on
+unfoldable pub behind : ℕ → List Need → List Need
+behind n needs = map (λ d. (n + d .0, n + d .1)) needs
+
+-- the gate's needs with those of the extras behind them are such a union
+pub union-append : (n : ℕ) (gate extras : List Need) → NeedsIn n gate → DisjointUnion n gate extras (gate ++ behind n extras)
+unfolding behind
+union-append n gate extras gate-in = record {
+  gate-needs = λ g k p q. (λ a. either (λ w. w) (λ w. absurd (omega (arith, extra (g, k) w .0))) a, λ a. Memᴰ·append-left (behind n extras) a);
+  extra-needs = λ g k. (λ a. either (λ w. absurd (omega (arith, gate-in (n + g) (n + k) w .0))) (λ w. back g k (n + g, n + k) w refl refl) a, λ a. Memᴰ·append-right gate (map-mem _ extras (g, k) a));
+  apart = λ g k a. either (λ w. inl (gate-in g k w)) (λ w. inr (extra (g, k) w)) a;
+}
+  where
+    either : {P : Type 0} {d : Need} → (List·Memᴰ d gate → P) → (List·Memᴰ d (behind n extras) → P) → List·Memᴰ d (gate ++ behind n extras) → P
+    either f h a = ⊎-elim f h (List·Memᴰ·append-cases gate a)
+
+    extra : (d : Need) → List·Memᴰ d (behind n extras) → (n ≤ d .0) × (n ≤ d .1)
+    extra = map-mem⁻¹ (λ (d : Need). (n ≤ d .0) × (n ≤ d .1)) _ extras (λ d _. (omega arith, omega arith))
+
+    back : (g k : ℕ) (d : Need) → List·Memᴰ d (behind n extras) → d .0 ≡ n + g → d .1 ≡ n + k → Gives extras g k
+    back g k = map-mem⁻¹ (λ (d : Need). d .0 ≡ n + g → d .1 ≡ n + k → Gives extras g k) _ extras (λ d m p q.
+        let a : d .0 ≡ g = omega arith in let b : d .1 ≡ k = omega arith in rw (← a, ← b) m)
 
 -- the same, of needs between the n jobs of the gate and between the m extra ones
 pub record Joined (n m : ℕ) (gate extras whole : List Need) : Type 0 where
