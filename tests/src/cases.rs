@@ -9,7 +9,9 @@ use crate::reference::reading::{read, JobFile, LONGEST_FILE, MOST_BOARDS};
 use crate::reference::search;
 use crate::reference::table::Table;
 use crate::report::shown;
+use crate::stage::Verdict;
 use crate::tester::Tester;
+use std::fmt::Debug;
 
 /// Small files are tried against the search through all lists where there are at most this many.
 const MOST_LISTS: usize = 50_000;
@@ -19,7 +21,7 @@ const RARE: u64 = 1_000;
 pub fn run(tester: &mut Tester, seed: u64, index: u64) {
     tester.random = Random::new(seed, index);
     tester.label = format!("seed {seed} index {index}");
-    match index % 20 {
+    match index % 21 {
         0..=7 => sound(tester),
         8 => eight_boards(tester),
         9..=11 => small(tester),
@@ -27,6 +29,7 @@ pub fn run(tester: &mut Tester, seed: u64, index: u64) {
         13..=15 => damaged_fields(tester),
         16 | 17 => damaged_bytes(tester),
         18 => lengths(tester),
+        19 => extra_jobs(tester),
         _ => many_tables(tester),
     }
     if index % RARE == 0 {
@@ -68,6 +71,46 @@ fn eight_boards(tester: &mut Tester) {
         let checked = tester.check("check: without most boards", &without, &table);
         let same = checked == tester.check("check: most boards 8", &with, &table);
         same_answer(tester, same, &with);
+    }
+}
+
+/// Files of a gate, of extra jobs, and of both with no need between them, under one limit and with eight boards.
+fn extra_jobs(tester: &mut Tester) {
+    let [mut gate, mut extras] = [16, 4].map(|most| Draft::sound(&mut tester.random, most));
+    gate.limit = gate.limit.max(tester.random.pick(&[1, extras.limit]));
+    extras.limit = gate.limit;
+    gate.boards = tester.random.pick(&[None, Some(8)]);
+    extras.boards = tester.random.pick(&[None, Some(8)]);
+    let files = [&gate, &extras, &gate.with_extras(&extras)].map(|draft| draft.mixed_bytes(&mut tester.random));
+    let planned = files.each_ref().map(|file| tester.plan("plan: extra jobs", file));
+    let (kind, verdict) = extras_verdict(&planned);
+    tester.report.answer("extra jobs", kind.to_string());
+    if let Some(verdict) = verdict {
+        let shown = || files.each_ref().map(|file| shown(file)).join(", ");
+        let label = &tester.label;
+        tester.report.case("extra jobs: what request 12 says", verdict, || format!("{label}, files {}", shown()));
+    }
+}
+
+/// Of the tables of a gate, of extra jobs and of both: how they stand, and whether what request 12 says of that is so.
+fn extras_verdict(planned: &[Result<Vec<u8>, u8>; 3]) -> (&'static str, Option<Verdict>) {
+    match planned {
+        [Ok(gate), Ok(extras), Ok(both)] if extras[4] <= gate[4] => {
+            let (alone, together) = (starts_of(gate).unwrap_or_default(), starts_of(both).unwrap_or_default());
+            ("no longer than the gate", Some(agree(&together[..alone.len()], &alone[..])))
+        }
+        [Ok(_), Ok(_), Ok(_)] => ("longer than the gate", None),
+        [Ok(_), Ok(_), Err(number)] => ("each group planned, not both", Some(agree(number, &12))),
+        [_, _, Ok(_)] => ("both planned, not each group", Some(Err("a group alone is refused".to_string()))),
+        _ => ("a group refused, and both", None),
+    }
+}
+
+fn agree<T: PartialEq + Debug + ?Sized>(found: &T, expected: &T) -> Verdict {
+    if found == expected {
+        Ok(())
+    } else {
+        Err(format!("{found:?}, not {expected:?}"))
     }
 }
 

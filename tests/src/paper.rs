@@ -1,5 +1,5 @@
 //! The cases that document 01 names, with their answers written out, and others whose answer its text settles, or that
-//! of request 13 in document 02.
+//! of requests 12 and 13 in document 02.
 
 use crate::generate::drafts::{boards_field, field, job_field, need_field, Draft};
 use crate::reference::entries::table_of;
@@ -31,7 +31,7 @@ const PRINTED_FILE: [u8; 36] = [
 const PRINTED: &str = "slots 3 boards 2\n1 a 0 1 2\n2 b 0 2 -2\n3 c 2 1 0\n";
 
 pub fn run(tester: &mut Tester) {
-    for (name, file, answer) in planned_cases().into_iter().chain(most_boards_cases()) {
+    for (name, file, answer) in planned_cases().into_iter().chain(most_boards_cases()).chain(extras_cases()) {
         planned(tester, name, &file, answer);
     }
     for (name, draft, width) in widths() {
@@ -109,6 +109,38 @@ fn planned_cases() -> Vec<(&'static str, Vec<u8>, Answer)> {
             Planned(vec![0, 2, 1, 2], vec![1, 2, 1, 1]),
         ),
     ]
+}
+
+/// Extra jobs behind a gate's: boards move; with 2 to 7 boards, and with extras longer than the gate, starts move too.
+fn extras_cases() -> Vec<(&'static str, Vec<u8>, Answer)> {
+    let branch = Draft::plain(3, 4, &[(1, 2), (2, 3), (1, 4)]);
+    let late = Draft::plain(4, 4, &[(1, 2), (1, 3), (3, 4)]);
+    let mut cases = vec![
+        ("a gate alone", branch.bytes(), Planned(vec![0, 1, 2, 2], vec![1, 1, 1, 2])),
+        (
+            "the gate with a chain of 3",
+            branch.with_extras(&Draft::chain(3, 3)).bytes(),
+            Planned(vec![0, 1, 2, 2, 0, 1, 2], vec![1, 1, 1, 3, 2, 2, 2]),
+        ),
+        ("a shorter gate alone", late.bytes(), Planned(vec![0, 2, 1, 2], vec![1, 2, 1, 1])),
+        (
+            "the gate with a chain of 4",
+            late.with_extras(&Draft::chain(4, 4)).bytes(),
+            Planned(vec![0, 1, 2, 3, 0, 1, 2, 3], vec![1, 1, 1, 1, 2, 2, 2, 2]),
+        ),
+    ];
+    for boards in 2..=7 {
+        let gate = Draft { boards: Some(boards), ..Draft::plain(3, 3, &[(1, 3), (2, 3)]) };
+        let both = (1..boards).fold(gate.clone(), |both, _| both.with_extras(&Draft::chain(3, 3)));
+        let on_boards = (1..=boards).flat_map(|board| [board; 3]).collect();
+        cases.push(("two givers, 2 to 7 boards", gate.bytes(), Planned(vec![0, 0, 2], vec![1, 2, 1])));
+        cases.push((
+            "two givers and a chain of 3 for each other board",
+            both.bytes(),
+            Planned([0, 1, 2].repeat(boards as usize), on_boards),
+        ));
+    }
+    cases
 }
 
 /// Files with tag 9.

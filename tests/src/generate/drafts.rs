@@ -65,6 +65,18 @@ impl Draft {
         Draft { limit, boards, jobs, needs }
     }
 
+    /// The same with the jobs of `extras` behind its own, and their needs, numbered on.
+    pub fn with_extras(&self, extras: &Draft) -> Draft {
+        let first = self.jobs.len() as u8;
+        let needs = extras.needs.iter().map(|&(giver, taker)| (first + giver, first + taker));
+        Draft {
+            limit: self.limit,
+            boards: self.boards,
+            jobs: [&self.jobs[..], &extras.jobs].concat(),
+            needs: self.needs.iter().copied().chain(needs).collect(),
+        }
+    }
+
     /// The fields: header, limit, jobs, needs, most boards.
     pub fn fields(&self) -> Vec<Vec<u8>> {
         let mut fields = vec![field(1, &[1]), field(2, &[self.limit])];
