@@ -72,7 +72,9 @@ pub boards-move : Example 8
     (plain (fileOf 3 ((1, 2) ∷ (2, 3) ∷ []) 3) (planned 3 1 (0 ∷ 1 ∷ 2 ∷ []) (1 ∷ 1 ∷ 1 ∷ [])))
     (plain (fileOf 7 ((1, 2) ∷ (2, 3) ∷ (1, 4) ∷ (5, 6) ∷ (6, 7) ∷ []) 3) (planned 3 3 (0 ∷ 1 ∷ 2 ∷ 2 ∷ 0 ∷ 1 ∷ 2 ∷ []) (1 ∷ 1 ∷ 1 ∷ 3 ∷ 2 ∷ 2 ∷ 2 ∷ [])))
 unfolding wholeCase both behind
-boards-move = example 14 refl refl refl (says tt refl) (says tt refl) (says tt refl) (computed tt refl tt) (computed tt refl tt) (computed tt refl tt)
+boards-move =
+    example 14 refl refl refl
+    (says tt refl) (says tt refl) (says tt refl) (computed tt refl tt) (computed tt refl tt) (computed tt refl tt)
 
 -- "CR 12 is kept where tag 9 is absent": with two boards, job 2 of a gate with the needs 1-3, 2-3 starts a slot later where a chain of three runs beside it
 pub two-boards-move-starts : Example 2
@@ -80,7 +82,9 @@ pub two-boards-move-starts : Example 2
     (plain (fileOf 3 ((1, 2) ∷ (2, 3) ∷ []) 3 ++ 9 ∷ 1 ∷ 0 ∷ 2 ∷ []) (planned 3 1 (0 ∷ 1 ∷ 2 ∷ []) (1 ∷ 1 ∷ 1 ∷ [])))
     (plain (fileOf 6 ((1, 3) ∷ (2, 3) ∷ (4, 5) ∷ (5, 6) ∷ []) 3 ++ 9 ∷ 1 ∷ 0 ∷ 2 ∷ []) (planned 3 2 (0 ∷ 1 ∷ 2 ∷ 0 ∷ 1 ∷ 2 ∷ []) (1 ∷ 1 ∷ 1 ∷ 2 ∷ 2 ∷ 2 ∷ [])))
 unfolding wholeCase both behind
-two-boards-move-starts = example 13 refl refl refl (says tt refl) (says tt refl) (says tt refl) (computed tt refl tt) (computed tt refl tt) (computed tt refl tt)
+two-boards-move-starts =
+    example 13 refl refl refl
+    (says tt refl) (says tt refl) (says tt refl) (computed tt refl tt) (computed tt refl tt) (computed tt refl tt)
 
 -- extras that need a slot more than the gate leave it room to take a lower job first: the needs 1-2, 1-3, 3-4, and a chain of four
 pub longer-extras-move-starts : Example 8
@@ -89,4 +93,6 @@ pub longer-extras-move-starts : Example 8
     (plain (fileOf 8 ((1, 2) ∷ (1, 3) ∷ (3, 4) ∷ (5, 6) ∷ (6, 7) ∷ (7, 8) ∷ []) 4)
     (planned 4 2 (0 ∷ 1 ∷ 2 ∷ 3 ∷ 0 ∷ 1 ∷ 2 ∷ 3 ∷ []) (1 ∷ 1 ∷ 1 ∷ 1 ∷ 2 ∷ 2 ∷ 2 ∷ 2 ∷ [])))
 unfolding wholeCase both behind
-longer-extras-move-starts = example 16 refl refl refl (says tt refl) (says tt refl) (says tt refl) (computed tt refl tt) (computed tt refl tt) (computed tt refl tt)
+longer-extras-move-starts =
+    example 16 refl refl refl
+    (says tt refl) (says tt refl) (says tt refl) (computed tt refl tt) (computed tt refl tt) (computed tt refl tt)

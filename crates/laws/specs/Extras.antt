@@ -26,29 +26,6 @@ pub record DisjointUnion (n : ℕ) (gate extras whole : List Need) : Type 0 wher
   pub extra-needs : (g k : ℕ) → Gives whole (n + g) (n + k) ↔ Gives extras g k
   pub apart : (g k : ℕ) → Gives whole g k → ((g < n) × (k < n)) ⊎ ((n ≤ g) × (n ≤ k))
 
--- needs counted from n on
-unfoldable pub behind : ℕ → List Need → List Need
-behind n needs = map (λ d. (n + d .0, n + d .1)) needs
-
--- the gate's needs with those of the extras behind them are such a union
-pub union-append : (n : ℕ) (gate extras : List Need) → NeedsIn n gate → DisjointUnion n gate extras (gate ++ behind n extras)
-unfolding behind
-union-append n gate extras gate-in = record {
-  gate-needs = λ g k p q. (λ a. either (λ w. w) (λ w. absurd (omega (arith, extra (g, k) w .0))) a, λ a. Memᴰ·append-left (behind n extras) a);
-  extra-needs = λ g k. (λ a. either (λ w. absurd (omega (arith, gate-in (n + g) (n + k) w .0))) (λ w. back g k (n + g, n + k) w refl refl) a, λ a. Memᴰ·append-right gate (map-mem _ extras (g, k) a));
-  apart = λ g k a. either (λ w. inl (gate-in g k w)) (λ w. inr (extra (g, k) w)) a;
-}
-  where
-    either : {P : Type 0} {d : Need} → (List·Memᴰ d gate → P) → (List·Memᴰ d (behind n extras) → P) → List·Memᴰ d (gate ++ behind n extras) → P
-    either f h a = ⊎-elim f h (List·Memᴰ·append-cases gate a)
-
-    extra : (d : Need) → List·Memᴰ d (behind n extras) → (n ≤ d .0) × (n ≤ d .1)
-    extra = map-mem⁻¹ (λ (d : Need). (n ≤ d .0) × (n ≤ d .1)) _ extras (λ d _. (omega arith, omega arith))
-
-    back : (g k : ℕ) (d : Need) → List·Memᴰ d (behind n extras) → d .0 ≡ n + g → d .1 ≡ n + k → Gives extras g k
-    back g k = map-mem⁻¹ (λ (d : Need). d .0 ≡ n + g → d .1 ≡ n + k → Gives extras g k) _ extras (λ d m p q.
-        let a : d .0 ≡ g = omega arith in let b : d .1 ≡ k = omega arith in rw (← a, ← b) m)
-
 -- the same, of needs between the n jobs of the gate and between the m extra ones
 pub record Joined (n m : ℕ) (gate extras whole : List Need) : Type 0 where
   pub gate-in : NeedsIn n gate
@@ -74,12 +51,12 @@ module _ {n m : ℕ} {gate extras whole : List Need} (j : Joined n m gate extras
   extra-need g k a = j .union .extra-needs g k .0 a
 
   whole-in : NeedsIn (n + m) whole
-  whole-in g k a = ⊎-elim (λ w. (omega (arith, w .0), omega (arith, w .1))) extra (j .union .apart g k a)
+  whole-in g k a = ⊎-elim (λ w. (omega (arith, w .0), omega (arith, w .1))) (λ w. extra (omega (arith, w .0)) (omega (arith, w .1))) (j .union .apart g k a)
     where
-      extra : (n ≤ g) × (n ≤ k) → (g < n + m) × (k < n + m)
-      extra w =
-          let p : g ≡ n + (g - n) = omega (arith, w .0) in
-          let q : k ≡ n + (k - n) = omega (arith, w .1) in
+      extra : n ≤ g → n ≤ k → (g < n + m) × (k < n + m)
+      extra behind-g behind-k =
+          let p : g ≡ n + (g - n) = omega arith in
+          let q : k ≡ n + (k - n) = omega arith in
           let h = j .extras-in (g - n) (k - n) (extra-need (g - n) (k - n) (rw (← p, ← q) a)) in
           (omega (arith, h .0), omega (arith, h .1))
 
@@ -208,7 +185,8 @@ module _ {n m : ℕ} {gate extras whole : List Need} (j : Joined n m gate extras
       preferred : slots t ≡ slots (take n u) → Preferred n t (take n u) → ⊥
       preferred s p =
           ⊎-elim (λ q. omega (arith, q, s, slots-join t (drop n u), slots-cut n u))
-          (λ q. pref .lacks (rw (← (Weak-antisym (n + m) u (t ++ drop n u) (q .1) (inr pref))) at (pref .has))) (beats (drop n u) (extras-kept j u (bu .0)) (extras-fit u (bu .1)))
+          (λ q. pref .lacks (rw (← (Weak-antisym (n + m) u (t ++ drop n u) (q .1) (inr pref))) at (pref .has)))
+          (beats (drop n u) (extras-kept j u (bu .0)) (extras-fit u (bu .1)))
         where
           pref : Preferred (n + m) (t ++ drop n u) u
           pref = rw (take-append-drop n u) at (join-preferred j t (take n u) (drop n u) (bt .1 .len) (gate-fits u (bu .1) .len) p)
@@ -216,3 +194,31 @@ module _ {n m : ℕ} {gate extras whole : List Need} (j : Joined n m gate extras
       go : NoWorse n t (take n u) → take n u ≡ t
       go (inl q) = absurd (omega (arith, q, as-short, slots-cut n u))
       go (inr q) = ⊎-elim sym (λ p. absurd (preferred (q .0) p)) (q .1)
+
+-- ---- the needs of both, one after the other
+
+-- needs counted from n on
+unfoldable pub behind : ℕ → List Need → List Need
+behind n needs = map (λ d. (n + d .0, n + d .1)) needs
+
+-- the gate's needs with those of the extras behind them are such a union
+pub union-append : (n : ℕ) (gate extras : List Need) → NeedsIn n gate → DisjointUnion n gate extras (gate ++ behind n extras)
+unfolding behind
+union-append n gate extras gate-in = record {
+  gate-needs = λ g k p q. (λ a. either (λ w. w) (λ w. absurd (omega (arith, extra (g, k) w .0))) a, λ a. Memᴰ·append-left (behind n extras) a);
+  extra-needs = λ g k. (
+    λ a. either (λ w. absurd (omega (arith, gate-in (n + g) (n + k) w .0))) (λ w. back g k (n + g, n + k) w refl refl) a,
+    λ a. Memᴰ·append-right gate (map-mem _ extras (g, k) a),
+  );
+  apart = λ g k a. either (λ w. inl (gate-in g k w)) (λ w. inr (extra (g, k) w)) a;
+}
+  where
+    either : {P : Type 0} {d : Need} → (List·Memᴰ d gate → P) → (List·Memᴰ d (behind n extras) → P) → List·Memᴰ d (gate ++ behind n extras) → P
+    either f h a = ⊎-elim f h (List·Memᴰ·append-cases gate a)
+
+    extra : (d : Need) → List·Memᴰ d (behind n extras) → (n ≤ d .0) × (n ≤ d .1)
+    extra = map-mem⁻¹ (λ (d : Need). (n ≤ d .0) × (n ≤ d .1)) _ extras (λ d _. (omega arith, omega arith))
+
+    back : (g k : ℕ) (d : Need) → List·Memᴰ d (behind n extras) → d .0 ≡ n + g → d .1 ≡ n + k → Gives extras g k
+    back g k = map-mem⁻¹ (λ (d : Need). d .0 ≡ n + g → d .1 ≡ n + k → Gives extras g k) _ extras (λ d m p q.
+        let a : d .0 ≡ g = omega arith in let b : d .1 ≡ k = omega arith in rw (← a, ← b) m)

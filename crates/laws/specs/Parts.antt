@@ -125,7 +125,9 @@ module _ (n : ℕ) (ds : List Need) (ds-in : NeedsIn n ds) where
   }
     where
       later : (g c : ℕ) → Gives ds g c → KeptPart τ g → τ g + 1 ≤ τ c
-      later g c a (w, k) = let u = w .part .takers (w .i) c (w .i-in) (rw (w .is) at a) in omega (arith, ap τ (w .is), ap τ (u .2), k .later (w .i) (u .0) (u .1))
+      later g c a (w, k) =
+          let u = w .part .takers (w .i) c (w .i-in) (rw (w .is) at a) in
+          omega (arith, ap τ (w .is), ap τ (u .2), k .later (w .i) (u .0) (u .1))
 
       gives : (g i j : ℕ) → Gives ds g i → Gives ds g j → τ i ≡ τ g + 1 → τ j ≡ τ g + 1 → KeptPart τ g → i ≡ j
       gives g i j a b x y (w, k) =
@@ -155,7 +157,8 @@ case-part {f = f} p r i v l (double j c a b d e h x) =
     let y = p .givers c i l b in
     let q : r j ≡ r (f (w .0)) = ap r (w .2) in
     let z : r c ≡ r (f (y .0)) = ap r (y .2) in
-    double (w .0) (y .0) (w .1) (y .1) (λ s. d (w .2 ∙ ap f s ∙ sym (y .2))) (omega (arith, q, z, e)) (λ g m. omega (arith, q, h (f g) (p .needs g i m))) (omega (arith, x, q))
+    double (w .0) (y .0) (w .1) (y .1) (λ s. d (w .2 ∙ ap f s ∙ sym (y .2))) (omega (arith, q, z, e))
+    (λ g m. omega (arith, q, h (f g) (p .needs g i m))) (omega (arith, x, q))
 
 -- without a circle a job has the release in the whole that it has in the part
 pub part-release : {k n : ℕ} {es ds : List Need} {f : ℕ → ℕ} → Part k n es ds f → ¬ (Circle ds) → (i : ℕ) → i < k → release n ds (f i) ≡ release k es i

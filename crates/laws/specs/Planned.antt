@@ -54,8 +54,9 @@ module _ (f : JobFile) (ok : Readable f) where
   pub too-wide : ¬ (Circle (f .needs)) → maxWidth < width (length (f .jobs)) (f .needs) (f .limit) → planTable f ≡ refused 12
   unfolding planTable
   too-wide free wide =
+      let w = width (length (f .jobs)) (f .needs) (f .limit) in
       ask-yes (circleFree (length (f .jobs)) (f .needs)) 11 _ (circle-free (length (f .jobs)) (f .needs) needs-in .1 free)
-      ∙ ask-no (leb (width (length (f .jobs)) (f .needs) (f .limit)) maxWidth) 12 _ (λ h. omega (arith, wide, T-leb (width (length (f .jobs)) (f .needs) (f .limit)) maxWidth .0 h))
+      ∙ ask-no (leb w maxWidth) 12 _ (λ h. omega (arith, wide, T-leb w maxWidth .0 h))
 
   module _ (free : ¬ (Circle (f .needs))) (narrow : width (length (f .jobs)) (f .needs) (f .limit) ≤ maxWidth) where
     -- the questions before 13 are yes
