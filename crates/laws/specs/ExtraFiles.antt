@@ -27,7 +27,7 @@ use Rattle.laws.specs.Best.{BestWithin, best-is, best-only}
 use Rattle.laws.specs.BoardLaws.{width-capped}
 use Rattle.laws.specs.Planned.{too-wide, written-where, starts-are}
 use Rattle.laws.specs.Demands.{asked, plan-full, FromFile, from-file, answers-table, table-passes}
-use Rattle.laws.specs.Parts.{part-free, part-width}
+use Rattle.laws.specs.Parts.{Part, part-free, part-width}
 use Rattle.laws.specs.Extras.{DisjointUnion, Joined, gate-part, extras-part, union-free, gate-kept, extras-kept, join-kept}
 use Rattle.laws.specs.Extras.{BestKept, join-fits, gate-fits, extras-fit, gate-keeps}
 
@@ -141,15 +141,19 @@ module _ {gate extras whole : JobFile} (gate-ok : Readable gate) (extras-ok : Re
     best : BestKept (n + m) (whole .needs) L (starts W)
     best = rw size at (planned whole-eight W e .best)
 
+    part-plans : {f : JobFile} {place : ℕ → ℕ} → EightBoards f → Part (length (f .jobs)) (n + m) (f .needs) (whole .needs) place → f .limit ≡ L
+        → (u : List ℕ) → Kept (Gives (f .needs)) (at u) → Fits (length (f .jobs)) L u → (T : Table) × (planTable f ≡ got T)
+    part-plans b p l u k h = plans b (part-free p free) (rw l (omega (arith, narrow, part-width p free L))) u (k, rw l h)
+
     gate-plans : (T : Table) × (planTable gate ≡ got T)
     gate-plans =
-        plans gate-eight (part-free (gate-part joined) free) (rw (x .gate-limit) (omega (arith, narrow, part-width (gate-part joined) free L)))
-        (take n (starts W)) (gate-kept joined (starts W) (best .0), rw (x .gate-limit) (gate-fits joined L (whole-ok .limit-in .0) (starts W) (best .1)))
+        part-plans gate-eight (gate-part joined) (x .gate-limit) (take n (starts W)) (gate-kept joined (starts W) (best .0))
+        (gate-fits joined L (whole-ok .limit-in .0) (starts W) (best .1))
 
     extras-plans : (T : Table) × (planTable extras ≡ got T)
     extras-plans =
-        plans extras-eight (part-free (extras-part joined) free) (rw (x .extras-limit) (omega (arith, narrow, part-width (extras-part joined) free L)))
-        (drop n (starts W)) (extras-kept joined (starts W) (best .0), rw (x .extras-limit) (extras-fit joined L (whole-ok .limit-in .0) (starts W) (best .1)))
+        part-plans extras-eight (extras-part joined) (x .extras-limit) (drop n (starts W)) (extras-kept joined (starts W) (best .0))
+        (extras-fit joined L (whole-ok .limit-in .0) (starts W) (best .1))
 
     keeps : (G E : Table) → planTable gate ≡ got G → planTable extras ≡ got E → E .slots ≤ G .slots → (i : ℕ) → i < n → at (starts W) i ≡ at (starts G) i
     keeps G E p q short i h = sym (getD-take n (starts W) i 0 h) ∙ ap (λ (t : List ℕ). at t i) same

@@ -119,7 +119,7 @@ module _ {n m : ℕ} {gate extras whole : List Need} (j : Joined n m gate extras
     unfolding in-gate in-extras
     join-kept k l = parts-kept (n + m) whole whole-in (at (t ++ e)) (λ i h. go i h (group i))
       where
-        go : (i : ℕ) → i < n + m → Group i → KeptPart (n + m) whole whole-in (at (t ++ e)) i
+        go : (i : ℕ) → i < n + m → Group i → KeptPart (n + m) whole (at (t ++ e)) i
         go i h (inl p) = (in-gate i p, same-kept n gate (j .gate-in) (at t) (at (t ++ e)) at-gate k)
         go i h (inr (a, q)) = (in-extras i a h q, same-kept m extras (j .extras-in) (at e) (λ b. at (t ++ e) (n + b)) (λ b _. at-extra b) l)
 

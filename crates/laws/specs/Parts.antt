@@ -95,6 +95,10 @@ pub record InPart (n : ℕ) (ds : List Need) (j : ℕ) : Type 0 where
   pub i-in : i < size
   pub is : j ≡ place i
 
+-- job j is in a part whose needs the starts τ keep
+abbrev pub KeptPart : ℕ → List Need → (ℕ → ℕ) → ℕ → Type 0
+KeptPart n ds τ j = (w : InPart n ds j) × Kept (Gives (w .needs)) (λ i. τ (w .place i))
+
 -- a whole of which every job is in a part
 module _ (n : ℕ) (ds : List Need) (ds-in : NeedsIn n ds) where
   -- a chain begins with a job
@@ -112,31 +116,27 @@ module _ (n : ℕ) (ds : List Need) (ds-in : NeedsIn n ds) where
           let e : w .i ≡ v .0 = w .part .once (w .i) (v .0) (sym (w .is) ∙ v .2) in
           free (w .i, rw (← e) at (v .1))
 
-  -- job j is in a part whose needs the starts τ keep
-  abbrev pub KeptPart : (ℕ → ℕ) → ℕ → Type 0
-  KeptPart τ j = (w : InPart n ds j) × Kept (Gives (w .needs)) (λ i. τ (w .place i))
-
-  -- where each job is, τ keeps all needs
-  pub parts-kept : (τ : ℕ → ℕ) → ((j : ℕ) → j < n → KeptPart τ j) → Kept (Gives ds) τ
+  -- where starts keep the needs of the part that each job is in, they keep all
+  pub parts-kept : (τ : ℕ → ℕ) → ((j : ℕ) → j < n → KeptPart n ds τ j) → Kept (Gives ds) τ
   parts-kept τ parts = record {
     later = λ g c a. later g c a (parts g (ds-in g c a .0));
     give-one = λ g i j a b x y. gives g i j a b x y (parts g (ds-in g i a .0));
     take-one = λ i j c a b x y. takes i j c a b x y (parts c (ds-in i c a .1));
   }
     where
-      later : (g c : ℕ) → Gives ds g c → KeptPart τ g → τ g + 1 ≤ τ c
+      later : (g c : ℕ) → Gives ds g c → KeptPart n ds τ g → τ g + 1 ≤ τ c
       later g c a (w, k) =
           let u = w .part .takers (w .i) c (w .i-in) (rw (w .is) at a) in
           omega (arith, ap τ (w .is), ap τ (u .2), k .later (w .i) (u .0) (u .1))
 
-      gives : (g i j : ℕ) → Gives ds g i → Gives ds g j → τ i ≡ τ g + 1 → τ j ≡ τ g + 1 → KeptPart τ g → i ≡ j
+      gives : (g i j : ℕ) → Gives ds g i → Gives ds g j → τ i ≡ τ g + 1 → τ j ≡ τ g + 1 → KeptPart n ds τ g → i ≡ j
       gives g i j a b x y (w, k) =
           let u = w .part .takers (w .i) i (w .i-in) (rw (w .is) at a) in
           let v = w .part .takers (w .i) j (w .i-in) (rw (w .is) at b) in
           let e = k .give-one (w .i) (u .0) (v .0) (u .1) (v .1) (omega (arith, ap τ (w .is), ap τ (u .2), x)) (omega (arith, ap τ (w .is), ap τ (v .2), y)) in
           u .2 ∙ ap (w .place) e ∙ sym (v .2)
 
-      takes : (i j c : ℕ) → Gives ds i c → Gives ds j c → τ i + 1 ≡ τ c → τ j + 1 ≡ τ c → KeptPart τ c → i ≡ j
+      takes : (i j c : ℕ) → Gives ds i c → Gives ds j c → τ i + 1 ≡ τ c → τ j + 1 ≡ τ c → KeptPart n ds τ c → i ≡ j
       takes i j c a b x y (w, k) =
           let u = w .part .givers i (w .i) (w .i-in) (rw (w .is) at a) in
           let v = w .part .givers j (w .i) (w .i-in) (rw (w .is) at b) in
