@@ -41,7 +41,8 @@ module _ (n : ℕ) (needs : List Need) (needs-in : NeedsIn n needs) where
   unfolding giversMarked
   giver-first f g k a t = (simp tests at (rw (round-step n f needs k (needs-in g k a .1)) at t)) (g, k) a refl
 
-  start-in : (a b : ℕ) → Chain needs a b → a < n
+  -- a chain begins with a job
+  pub start-in : (a b : ℕ) → Chain needs a b → a < n
   start-in _ _ (one a b m) = needs-in a b m .0
   start-in _ _ (more a b c m r) = needs-in a b m .0
 

@@ -8,28 +8,26 @@ use Prim.Native.Nat.{ℕ, _+_, _≤_, _<_}
 use native.Mathlib.Omega.{arith}
 use native.Mathlib.Decide.{decLt}
 use lib.ListN.{length, take, drop, length-append}
-use lib.Seq.{getD-take}
 use Rattle.rules.specs.Sizes.{maxBoards, maxWidth, workSize, tableSize}
 use Rattle.rules.specs.Basics.{at}
 use Rattle.rules.specs.Numbers.{Bytes}
 use Rattle.rules.specs.Fields.{Answer, refused, got, after}
-use Rattle.rules.specs.Needs.{Gives, NeedsIn, Circle}
+use Rattle.rules.specs.Needs.{Gives, Circle}
 use Rattle.rules.specs.JobFile.{JobFile, mostBoards, readFile}
 use Rattle.rules.specs.Program.{slots, Kept, Fits}
 use Rattle.rules.specs.Windows.{width}
 use Rattle.rules.specs.Boards.{Capped, Runs}
 use Rattle.rules.specs.Table.{Table, starts, encode}
 use Rattle.rules.specs.Answers.{Outcome, tableOf, planTable, written, plan, check}
-use Rattle.laws.specs.JobFile.{Readable, readable}
+use Rattle.laws.specs.JobFile.{Readable, needs-in, readable}
 use Rattle.laws.specs.Program.{program-is}
-use Rattle.laws.specs.Caps.{capped-more}
+use Rattle.laws.specs.Width.{fileWidth}
 use Rattle.laws.specs.Best.{BestWithin, best-is, best-only}
-use Rattle.laws.specs.BoardLaws.{width-capped}
-use Rattle.laws.specs.Planned.{too-wide, written-where, starts-are}
-use Rattle.laws.specs.Demands.{asked, plan-full, FromFile, from-file, answers-table, table-passes}
+use Rattle.laws.specs.Planned.{wide-capped, too-wide, written-where, starts-are}
+use Rattle.laws.specs.Demands.{asked, plan-full, FromFile, from-file, answers-full, answers-table, table-passes}
 use Rattle.laws.specs.Parts.{Part, part-free, part-width}
-use Rattle.laws.specs.Extras.{DisjointUnion, Joined, gate-part, extras-part, union-free, gate-kept, extras-kept, join-kept}
-use Rattle.laws.specs.Extras.{BestKept, join-fits, gate-fits, extras-fit, gate-keeps}
+use Rattle.laws.specs.Extras.{DisjointUnion, UnionIn, gate-part, extras-part, union-free, gate-kept, extras-kept, append-kept}
+use Rattle.laws.specs.Extras.{BestKept, append-fits, gate-fits, extras-fit, gate-keeps}
 
 -- "the extra jobs stand behind the gate's, no need joins the two groups", "under the same limit": the whole has the gate's jobs in their order, with their
 -- levels and names, then the extra ones, and the needs of both; each of the three files has c boards
@@ -46,11 +44,7 @@ pub record Extended (c : ℕ) (gate extras whole : JobFile) : Type 0 where
 
 record EightBoards (f : JobFile) : Type 0 where
   ok : Readable f
-  eight : mostBoards f ≡ maxBoards
-
--- its width
-abbrev fileWidth : JobFile → ℕ
-fileWidth f = width (length (f .jobs)) (f .needs) (f .limit)
+  eight : maxBoards ≤ mostBoards f
 
 -- the start list u keeps its needs within its limit
 abbrev Within : JobFile → List ℕ → Type 0
@@ -64,19 +58,14 @@ record Planned (f : JobFile) (T : Table) : Type 0 where
   slots-are : T .slots ≡ slots (starts T)
 
 module _ {f : JobFile} (b : EightBoards f) where
-  needs-in : NeedsIn (length (f .jobs)) (f .needs)
-  needs-in g k a = let w = b .ok .needs-in g k a in (w .0, w .1)
-
   -- a list within the limit has no more jobs in a slot than there are boards
   few : fileWidth f ≤ maxWidth → (u : List ℕ) → Within f u → Capped (length (f .jobs)) (mostBoards f) u
-  few narrow u (k, h) =
-      capped-more (length (f .jobs)) (fileWidth f) (mostBoards f) u (omega (arith, narrow, b .eight))
-      (width-capped (length (f .jobs)) (f .needs) needs-in u (h .len) k (f .limit) h)
+  few narrow u (k, h) = wide-capped f (b .ok) (mostBoards f) (omega (arith, narrow, b .eight)) u k h
 
   -- without a circle and not too wide, the file gets a table where some list keeps its needs within its limit
   plans : ¬ (Circle (f .needs)) → fileWidth f ≤ maxWidth → (u : List ℕ) → Within f u → (T : Table) × (planTable f ≡ got T)
   plans free narrow u h =
-      let p = program-is (length (f .jobs)) (f .needs) (f .limit) u (b .ok .distinct) needs-in .1 h in
+      let p = program-is (length (f .jobs)) (f .needs) (f .limit) u (b .ok .distinct) (needs-in f (b .ok)) .1 h in
       let w = written-where f (b .ok) free narrow u (p, few narrow u h) in
       (tableOf f (w .0), w .2)
 
@@ -98,21 +87,21 @@ module _ {f : JobFile} (b : EightBoards f) where
 
       best : BestWithin (length (f .jobs)) (f .limit) (Runs (length (f .jobs)) (f .needs) (mostBoards f)) (some (w .list))
       best =
-          rw (best-only (length (f .jobs)) (f .needs) (mostBoards f) (f .limit) (b .ok .distinct) needs-in (b .ok .limit-in .0) (w .list) (w .short))
-          at (best-is (length (f .jobs)) (f .needs) (mostBoards f) (f .limit))
+          let only = best-only (length (f .jobs)) (f .needs) (mostBoards f) (f .limit) (b .ok .distinct) (needs-in f (b .ok)) (b .ok .limit-in .0) in
+          rw (only (w .list) (w .short)) at (best-is (length (f .jobs)) (f .needs) (mostBoards f) (f .limit))
 
 -- ---- the three files
 
 module _ {gate extras whole : JobFile} (gate-ok : Readable gate) (extras-ok : Readable extras) (whole-ok : Readable whole)
     (x : Extended maxBoards gate extras whole) where
   gate-eight : EightBoards gate
-  gate-eight = record { ok = gate-ok; eight = x .gate-boards }
+  gate-eight = record { ok = gate-ok; eight = omega (arith, x .gate-boards) }
 
   extras-eight : EightBoards extras
-  extras-eight = record { ok = extras-ok; eight = x .extras-boards }
+  extras-eight = record { ok = extras-ok; eight = omega (arith, x .extras-boards) }
 
   whole-eight : EightBoards whole
-  whole-eight = record { ok = whole-ok; eight = x .whole-boards }
+  whole-eight = record { ok = whole-ok; eight = omega (arith, x .whole-boards) }
 
   -- how many jobs the gate has, how many extra ones there are, and the limit
   abbrev n : ℕ
@@ -127,8 +116,8 @@ module _ {gate extras whole : JobFile} (gate-ok : Readable gate) (extras-ok : Re
   size : length (whole .jobs) ≡ n + m
   size = ap length (x .jobs) ∙ length-append (gate .jobs) (extras .jobs)
 
-  joined : Joined n m (gate .needs) (extras .needs) (whole .needs)
-  joined = record { gate-in = needs-in gate-eight; extras-in = needs-in extras-eight; union = x .needs }
+  union : UnionIn n m (gate .needs) (extras .needs) (whole .needs)
+  union = record { gate-in = needs-in gate gate-ok; extras-in = needs-in extras extras-ok; needs = x .needs }
 
   -- where the whole is planned, so is each group alone
   module _ (W : Table) (e : planTable whole ≡ got W) where
@@ -141,33 +130,33 @@ module _ {gate extras whole : JobFile} (gate-ok : Readable gate) (extras-ok : Re
     best : BestKept (n + m) (whole .needs) L (starts W)
     best = rw size at (planned whole-eight W e .best)
 
+    -- a part gets a table where a list for it is at hand
     part-plans : {f : JobFile} {place : ℕ → ℕ} → EightBoards f → Part (length (f .jobs)) (n + m) (f .needs) (whole .needs) place → f .limit ≡ L
         → (u : List ℕ) → Kept (Gives (f .needs)) (at u) → Fits (length (f .jobs)) L u → (T : Table) × (planTable f ≡ got T)
     part-plans b p l u k h = plans b (part-free p free) (rw l (omega (arith, narrow, part-width p free L))) u (k, rw l h)
 
     gate-plans : (T : Table) × (planTable gate ≡ got T)
     gate-plans =
-        part-plans gate-eight (gate-part joined) (x .gate-limit) (take n (starts W)) (gate-kept joined (starts W) (best .0))
-        (gate-fits joined L (whole-ok .limit-in .0) (starts W) (best .1))
+        part-plans gate-eight (gate-part union) (x .gate-limit) (take n (starts W)) (gate-kept union (starts W) (best .0))
+        (gate-fits union L (whole-ok .limit-in .0) (starts W) (best .1))
 
     extras-plans : (T : Table) × (planTable extras ≡ got T)
     extras-plans =
-        part-plans extras-eight (extras-part joined) (x .extras-limit) (drop n (starts W)) (extras-kept joined (starts W) (best .0))
-        (extras-fit joined L (whole-ok .limit-in .0) (starts W) (best .1))
+        part-plans extras-eight (extras-part union) (x .extras-limit) (drop n (starts W)) (extras-kept union (starts W) (best .0))
+        (extras-fit union L (whole-ok .limit-in .0) (starts W) (best .1))
 
-    keeps : (G E : Table) → planTable gate ≡ got G → planTable extras ≡ got E → E .slots ≤ G .slots → (i : ℕ) → i < n → at (starts W) i ≡ at (starts G) i
-    keeps G E p q short i h = sym (getD-take n (starts W) i 0 h) ∙ ap (λ (t : List ℕ). at t i) same
+    -- "every gate job keeps the start it has without them": the starts of the whole begin with those of the gate
+    keeps : (G E : Table) → planTable gate ≡ got G → planTable extras ≡ got E → E .slots ≤ G .slots → take (length (starts G)) (starts W) ≡ starts G
+    keeps G E p q short =
+        ap (λ (k : ℕ). take k (starts W)) (g .best .1 .len)
+        ∙ gate-keeps union L (whole-ok .limit-in .0) (starts W) (starts G) (starts E) best (rw (x .gate-limit) at (g .best)) (rw (x .extras-limit) at (r .best))
+        (omega (arith, short, g .slots-are, r .slots-are))
       where
         g : Planned gate G
         g = planned gate-eight G p
 
         r : Planned extras E
         r = planned extras-eight E q
-
-        same : take n (starts W) ≡ starts G
-        same =
-            gate-keeps joined L (whole-ok .limit-in .0) (starts W) (starts G) (starts E) best (rw (x .gate-limit) at (g .best))
-            (rw (x .extras-limit) at (r .best)) (omega (arith, short, g .slots-are, r .slots-are))
 
   -- where both groups are planned, the whole is, or it is too wide
   whole-plans : (G E : Table) → planTable gate ≡ got G → planTable extras ≡ got E → ((W : Table) × (planTable whole ≡ got W)) ⊎ (planTable whole ≡ refused 12)
@@ -180,13 +169,13 @@ module _ {gate extras whole : JobFile} (gate-ok : Readable gate) (extras-ok : Re
       r = planned extras-eight E q
 
       free : ¬ (Circle (whole .needs))
-      free = union-free joined (g .free) (r .free)
+      free = union-free union (g .free) (r .free)
 
       fits : Fits (n + m) L (starts G ++ starts E)
-      fits = join-fits joined L (whole-ok .limit-in .0) (starts G) (starts E) (rw (x .gate-limit) at (g .best .1)) (rw (x .extras-limit) at (r .best .1))
+      fits = append-fits union L (whole-ok .limit-in .0) (starts G) (starts E) (rw (x .gate-limit) at (g .best .1)) (rw (x .extras-limit) at (r .best .1))
 
       within : Within whole (starts G ++ starts E)
-      within = (join-kept joined (starts G) (starts E) (g .best .1 .len) (g .best .0) (r .best .0), rw size fits)
+      within = (append-kept union (starts G) (starts E) (g .best .1 .len) (g .best .0) (r .best .0), rw size fits)
 
       go : Dec (maxWidth < fileWidth whole) → ((W : Table) × (planTable whole ≡ got W)) ⊎ (planTable whole ≡ refused 12)
       go (no h) = inl (plans whole-eight free (omega arith) (starts G ++ starts E) within)
@@ -224,8 +213,8 @@ gets file bytes T e = record {
   passes = table-passes file bytes T e;
 }
 
--- the tables of a gate with n jobs, of extra jobs, and of both
-pub record KeepsStarts (gate extras whole : List ℕ) (n : ℕ) : Type 0 where
+-- the tables of a gate, of extra jobs, and of both
+pub record KeepsStarts (gate extras whole : List ℕ) : Type 0 where
   pub gate-table : Table
   pub extras-table : Table
   pub whole-table : Table
@@ -233,12 +222,12 @@ pub record KeepsStarts (gate extras whole : List ℕ) (n : ℕ) : Type 0 where
   pub extras-gets : Gets extras extras-table
   pub whole-gets : Gets whole whole-table
   -- "the extra ones alone under the same limit need no more slots than the gate's alone. Then every gate job keeps the start it has without them"
-  pub keeps : extras-table .slots ≤ gate-table .slots → (i : ℕ) → i < n → at (starts whole-table) i ≡ at (starts gate-table) i
+  pub keeps : extras-table .slots ≤ gate-table .slots → take (length (starts gate-table)) (starts whole-table) ≡ starts gate-table
 
 module _ {gate extras whole : List ℕ} {g e w : JobFile} (gate-says : Says gate g) (extras-says : Says extras e) (whole-says : Says whole w)
     (x : Extended maxBoards g e w) where
   -- "the two together are planned": then so is each group alone, and the gate keeps its starts
-  pub starts-kept : (work table : List ℕ) → plan whole work table .number ≡ 0 → KeepsStarts gate extras whole (length (g .jobs))
+  pub starts-kept : (work table : List ℕ) → plan whole work table .number ≡ 0 → KeepsStarts gate extras whole
   starts-kept work table zero =
       let W = answers-table whole work table zero in
       let p = sym (says-asked whole-says) ∙ W .1 in
@@ -254,27 +243,35 @@ module _ {gate extras whole : List ℕ} {g e w : JobFile} (gate-says : Says gate
         keeps = keeps (says-readable gate-says) (says-readable extras-says) (says-readable whole-says) x (W .0) p (G .0) (E .0) (G .1) (E .1);
       }
 
-  -- the other way round: where each group alone is planned, both together are, or are too wide
-  pub together-or-12 : (G E : Table) → Gets gate G → Gets extras E → (work table : List ℕ) → workSize ≤ length work → tableSize ≤ length table
+  -- the other way round: where each group alone is planned, the two together are, or get 12
+  pub whole-or-12 : (work table : List ℕ) → plan gate work table .number ≡ 0 → plan extras work table .number ≡ 0
       → (plan whole work table .number ≡ 0) ⊎ (plan whole work table .number ≡ 12)
   unfolding written
-  together-or-12 G E a b work table p q =
-      go (whole-plans (says-readable gate-says) (says-readable extras-says) (says-readable whole-says) x G E (sym (says-asked gate-says) ∙ a .leads)
-      (sym (says-asked extras-says) ∙ b .leads))
+  whole-or-12 work table a b =
+      go (whole-plans (says-readable gate-says) (says-readable extras-says) (says-readable whole-says) x (G .0) (E .0) (sym (says-asked gate-says) ∙ G .1)
+      (sym (says-asked extras-says) ∙ E .1))
     where
+      G : (T : Table) × (asked gate ≡ got T)
+      G = answers-table gate work table a
+
+      E : (T : Table) × (asked extras ≡ got T)
+      E = answers-table extras work table b
+
       number : (r : Answer Table) → planTable w ≡ r → plan whole work table .number ≡ written r work table .number
       number r z =
-          ap (λ (o : Outcome). o .number) (plan-full whole work table p q) ∙ ap (λ (y : Answer Table). written y work table .number) (says-asked whole-says ∙ z)
+          let full = answers-full gate work table a in
+          ap (λ (o : Outcome). o .number) (plan-full whole work table (full .0) (full .1))
+          ∙ ap (λ (y : Answer Table). written y work table .number) (says-asked whole-says ∙ z)
 
       go : ((W : Table) × (planTable w ≡ got W)) ⊎ (planTable w ≡ refused 12) → (plan whole work table .number ≡ 0) ⊎ (plan whole work table .number ≡ 12)
       go (inl (W, z)) = inl (number (got W) z)
       go (inr z) = inr (number (refused 12) z)
 
 -- "however the extras change within these terms": with other extras behind it the gate has the same starts
-pub extras-may-change : {gate extras others whole changed : List ℕ} {n : ℕ} (x : KeepsStarts gate extras whole n) (y : KeepsStarts gate others changed n)
+pub extras-may-change : {gate extras others whole changed : List ℕ} (x : KeepsStarts gate extras whole) (y : KeepsStarts gate others changed)
     → x .extras-table .slots ≤ x .gate-table .slots → y .extras-table .slots ≤ y .gate-table .slots
-    → (i : ℕ) → i < n → at (starts (x .whole-table)) i ≡ at (starts (y .whole-table)) i
-extras-may-change x y p q i h = x .keeps p i h ∙ ap (λ (T : Table). at (starts T) i) same ∙ sym (y .keeps q i h)
+    → let n = length (starts (x .gate-table)) in take n (starts (x .whole-table)) ≡ take n (starts (y .whole-table))
+extras-may-change x y p q = x .keeps p ∙ ap starts same ∙ sym (ap (λ (T : Table). take (length (starts T)) (starts (y .whole-table))) same ∙ y .keeps q)
   where
     got-same : (S T : Table) → got S ≡ got T → S ≡ T
     got-same S T e = cc

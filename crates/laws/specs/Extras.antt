@@ -8,13 +8,13 @@ use Prim.Native.Nat.{ℕ, _+_, _-_, _≤_, _<_, max}
 use native.Mathlib.Omega.{arith}
 use native.Mathlib.Decide.{decLt}
 use lib.ListN.{length, take, drop, length-append, length-drop, List·getD-append, take-append-drop}
-use lib.Seq.{length-take-le, getD-append-add, getD-take, getD-drop, ext-getD}
+use lib.Seq.{length-take-le, getD-append-add, getD-take, getD-drop}
 use Rattle.rules.specs.Basics.{at, largest}
 use Rattle.rules.specs.Needs.{Need, Gives, NeedsIn, Circle}
 use Rattle.rules.specs.Program.{slots, Fits, Kept}
 use Rattle.rules.specs.Preference.{Preferred}
 use Rattle.laws.specs.Lists.{map-mem, map-mem⁻¹}
-use Rattle.laws.specs.Program.{slots-fits, fits-slots, slots-pos}
+use Rattle.laws.specs.Program.{slots-fits, fits-slots}
 use Rattle.laws.specs.Preference.{Weak-antisym}
 use Rattle.laws.specs.Best.{NoWorse, BestWithin}
 use Rattle.laws.specs.Parts.{Part, part-kept, same-kept, InPart, parts-free, KeptPart, parts-kept}
@@ -27,13 +27,13 @@ pub record DisjointUnion (n : ℕ) (gate extras whole : List Need) : Type 0 wher
   pub apart : (g k : ℕ) → Gives whole g k → ((g < n) × (k < n)) ⊎ ((n ≤ g) × (n ≤ k))
 
 -- the same, of needs between the n jobs of the gate and between the m extra ones
-pub record Joined (n m : ℕ) (gate extras whole : List Need) : Type 0 where
+pub record UnionIn (n m : ℕ) (gate extras whole : List Need) : Type 0 where
   pub gate-in : NeedsIn n gate
   pub extras-in : NeedsIn m extras
-  pub union : DisjointUnion n gate extras whole
+  pub needs : DisjointUnion n gate extras whole
 
-module _ {n m : ℕ} {gate extras whole : List Need} (j : Joined n m gate extras whole) where
-  -- ---- the two parts
+module _ {n m : ℕ} {gate extras whole : List Need} (U : UnionIn n m gate extras whole) where
+  -- ---- the gate and the extras are parts of the whole
 
   -- a job is one of the gate's, or an extra one
   abbrev Group : ℕ → Type 0
@@ -48,48 +48,50 @@ module _ {n m : ℕ} {gate extras whole : List Need} (j : Joined n m gate extras
 
   -- the needs of an extra job are the extras'
   extra-need : (g k : ℕ) → Gives whole (n + g) (n + k) → Gives extras g k
-  extra-need g k a = j .union .extra-needs g k .0 a
+  extra-need g k a = U .needs .extra-needs g k .0 a
 
   whole-in : NeedsIn (n + m) whole
-  whole-in g k a = ⊎-elim (λ w. (omega (arith, w .0), omega (arith, w .1))) (λ w. extra (omega (arith, w .0)) (omega (arith, w .1))) (j .union .apart g k a)
+  whole-in g k a = ⊎-elim (λ w. (omega (arith, w .0), omega (arith, w .1))) (λ w. extra (omega (arith, w .0)) (omega (arith, w .1))) (U .needs .apart g k a)
     where
       extra : n ≤ g → n ≤ k → (g < n + m) × (k < n + m)
       extra behind-g behind-k =
           let p : g ≡ n + (g - n) = omega arith in
           let q : k ≡ n + (k - n) = omega arith in
-          let h = j .extras-in (g - n) (k - n) (extra-need (g - n) (k - n) (rw (← p, ← q) a)) in
+          let h = U .extras-in (g - n) (k - n) (extra-need (g - n) (k - n) (rw (← p, ← q) a)) in
           (omega (arith, h .0), omega (arith, h .1))
 
+  -- job i of the gate is job i of the whole
   pub gate-part : Part n (n + m) gate whole (λ i. i)
   gate-part = record {
-    part-in = j .gate-in;
+    part-in = U .gate-in;
     whole-in = whole-in;
     once = λ i k e. e;
     inside = λ i h. omega arith;
-    needs = λ g k a. let h = j .gate-in g k a in j .union .gate-needs g k (h .0) (h .1) .1 a;
-    givers = λ g i h a. (g, j .union .gate-needs g i (⊎-elim (λ w. w .0) (λ w. absurd (omega (arith, w .1, h))) (j .union .apart g i a)) h .0 a, refl);
-    takers = λ i k h a. (k, j .union .gate-needs i k h (⊎-elim (λ w. w .1) (λ w. absurd (omega (arith, w .0, h))) (j .union .apart i k a)) .0 a, refl);
+    needs = λ g k a. let h = U .gate-in g k a in U .needs .gate-needs g k (h .0) (h .1) .1 a;
+    givers = λ g i h a. (g, U .needs .gate-needs g i (⊎-elim (λ w. w .0) (λ w. absurd (omega (arith, w .1, h))) (U .needs .apart g i a)) h .0 a, refl);
+    takers = λ i k h a. (k, U .needs .gate-needs i k h (⊎-elim (λ w. w .1) (λ w. absurd (omega (arith, w .0, h))) (U .needs .apart i k a)) .0 a, refl);
   }
 
+  -- and job i of the extras is job n + i
   pub extras-part : Part m (n + m) extras whole (λ i. n + i)
   extras-part = record {
-    part-in = j .extras-in;
+    part-in = U .extras-in;
     whole-in = whole-in;
     once = λ i k e. omega arith;
     inside = λ i h. omega arith;
-    needs = λ g k a. j .union .extra-needs g k .1 a;
-    givers = λ g i h a. let e : g ≡ n + (g - n) = ⊎-elim (λ w. absurd (omega (arith, w .1))) (λ w. omega (arith, w .0)) (j .union .apart g (n + i) a) in
+    needs = λ g k a. U .needs .extra-needs g k .1 a;
+    givers = λ g i h a. let e : g ≡ n + (g - n) = ⊎-elim (λ w. absurd (omega (arith, w .1))) (λ w. omega (arith, w .0)) (U .needs .apart g (n + i) a) in
         (g - n, extra-need (g - n) i (rw (← e) a), e);
-    takers = λ i k h a. let e : k ≡ n + (k - n) = ⊎-elim (λ w. absurd (omega (arith, w .0))) (λ w. omega (arith, w .1)) (j .union .apart (n + i) k a) in
+    takers = λ i k h a. let e : k ≡ n + (k - n) = ⊎-elim (λ w. absurd (omega (arith, w .0))) (λ w. omega (arith, w .1)) (U .needs .apart (n + i) k a) in
         (k - n, extra-need i (k - n) (rw (← e) a), e);
   }
 
-  -- every job is in one of them
+  -- every job is in one of the two
   in-gate : (i : ℕ) → i < n → InPart (n + m) whole i
-  in-gate i h = record { size = n; needs = gate; place = λ a. a; part = gate-part; i = i; i-in = h; is = refl }
+  in-gate i h = record { size = n; needs = gate; place = λ a. a; part = gate-part; index = i; index-in = h; job-is = refl }
 
   in-extras : (i a : ℕ) → i < n + m → i ≡ n + a → InPart (n + m) whole i
-  in-extras i a h e = record { size = m; needs = extras; place = λ b. n + b; part = extras-part; i = a; i-in = omega arith; is = e }
+  in-extras i a h e = record { size = m; needs = extras; place = λ b. n + b; part = extras-part; index = a; index-in = omega arith; job-is = e }
 
   -- where neither has a circle there is none
   pub union-free : ¬ (Circle gate) → ¬ (Circle extras) → ¬ (Circle whole)
@@ -100,32 +102,36 @@ module _ {n m : ℕ} {gate extras whole : List Need} (j : Joined n m gate extras
       go i h (inl l) = (in-gate i l, g)
       go i h (inr (a, q)) = (in-extras i a h q, e)
 
-  -- ---- start lists: those of the whole cut behind the gate, and two joined
+  -- ---- start lists: one of the whole is one of the gate, and behind it one of the extras
 
+  -- the starts of the gate keep its needs where those of the whole keep all
   pub gate-kept : (u : List ℕ) → Kept (Gives whole) (at u) → Kept (Gives gate) (at (take n u))
   gate-kept u k = part-kept gate-part (at u) (at (take n u)) (λ i h. getD-take n u i 0 h) k
 
+  -- and those of the extras theirs
   pub extras-kept : (u : List ℕ) → Kept (Gives whole) (at u) → Kept (Gives extras) (at (drop n u))
   extras-kept u k = part-kept extras-part (at u) (at (drop n u)) (λ i h. getD-drop n u i 0) k
 
   module _ (t e : List ℕ) (len : length t ≡ n) where
+    -- the starts in both, one behind the other
     at-gate : (i : ℕ) → i < n → at (t ++ e) i ≡ at t i
     at-gate i h = List·getD-append t e 0 i (omega arith)
 
     at-extra : (a : ℕ) → at (t ++ e) (n + a) ≡ at e a
     at-extra a = ap (λ (x : ℕ). at (t ++ e) (x + a)) (sym len) ∙ getD-append-add t e a 0
 
-    pub join-kept : Kept (Gives gate) (at t) → Kept (Gives extras) (at e) → Kept (Gives whole) (at (t ++ e))
+    -- where each keeps its needs, the two keep all
+    pub append-kept : Kept (Gives gate) (at t) → Kept (Gives extras) (at e) → Kept (Gives whole) (at (t ++ e))
     unfolding in-gate in-extras
-    join-kept k l = parts-kept (n + m) whole whole-in (at (t ++ e)) (λ i h. go i h (group i))
+    append-kept k l = parts-kept (n + m) whole whole-in (at (t ++ e)) (λ i h. go i h (group i))
       where
         go : (i : ℕ) → i < n + m → Group i → KeptPart (n + m) whole (at (t ++ e)) i
-        go i h (inl p) = (in-gate i p, same-kept n gate (j .gate-in) (at t) (at (t ++ e)) at-gate k)
-        go i h (inr (a, q)) = (in-extras i a h q, same-kept m extras (j .extras-in) (at e) (λ b. at (t ++ e) (n + b)) (λ b _. at-extra b) l)
+        go i h (inl p) = (in-gate i p, same-kept n gate (U .gate-in) (at t) (at (t ++ e)) at-gate k)
+        go i h (inr (a, q)) = (in-extras i a h q, same-kept m extras (U .extras-in) (at e) (λ b. at (t ++ e) (n + b)) (λ b _. at-extra b) l)
 
   -- of two lists with the same extras, the one whose gate is preferred is preferred
-  join-preferred : (t r e : List ℕ) → length t ≡ n → length r ≡ n → Preferred n t r → Preferred (n + m) (t ++ e) (r ++ e)
-  join-preferred t r e lt lr p = record {
+  append-preferred : (t r e : List ℕ) → length t ≡ n → length r ≡ n → Preferred n t r → Preferred (n + m) (t ++ e) (r ++ e)
+  append-preferred t r e lt lr p = record {
     slot = p .slot;
     job = p .job;
     job-in = omega (arith, p .job-in);
@@ -139,29 +145,30 @@ module _ {n m : ℕ} {gate extras whole : List Need} (j : Joined n m gate extras
       same s i (inl l) f = rw (at-gate t e lt i l, at-gate r e lr i l) (f l)
       same s i (inr (a, q)) f = rw (q, at-extra t e lt a, at-extra r e lr a) (λ z. z, λ z. z)
 
--- ---- the slots of two lists joined, and of a list cut
+-- ---- the slots of a list and its two parts
 
-largest-join : (t e : List ℕ) → largest (t ++ e) ≡ max (largest t) (largest e)
+largest-append : (t e : List ℕ) → largest (t ++ e) ≡ max (largest t) (largest e)
 unfolding largest
-largest-join [] e = omega arith
-largest-join (x ∷ t) e = omega (arith, largest-join t e)
+largest-append [] e = omega arith
+largest-append (x ∷ t) e = omega (arith, largest-append t e)
 
-slots-join : (t e : List ℕ) → slots (t ++ e) ≡ max (slots t) (slots e)
+slots-append : (t e : List ℕ) → slots (t ++ e) ≡ max (slots t) (slots e)
 unfolding slots
-slots-join t e = omega (arith, largest-join t e)
+slots-append t e = omega (arith, largest-append t e)
 
 slots-cut : (n : ℕ) (u : List ℕ) → slots u ≡ max (slots (take n u)) (slots (drop n u))
-slots-cut n u = ap slots (sym (take-append-drop n u)) ∙ slots-join (take n u) (drop n u)
+slots-cut n u = ap slots (sym (take-append-drop n u)) ∙ slots-append (take n u) (drop n u)
 
 -- t is the best list of k jobs that keeps the needs within the limit L
 abbrev pub BestKept : ℕ → List Need → ℕ → List ℕ → Type 0
 BestKept k needs L t = BestWithin k L (λ u. Kept (Gives needs) (at u)) (some t)
 
-module _ {n m : ℕ} {gate extras whole : List Need} (j : Joined n m gate extras whole) (L : ℕ) (L-pos : 0 < L) where
-  pub join-fits : (t e : List ℕ) → Fits n L t → Fits m L e → Fits (n + m) L (t ++ e)
-  join-fits t e f g =
+module _ {n m : ℕ} {gate extras whole : List Need} (U : UnionIn n m gate extras whole) (L : ℕ) (L-pos : 0 < L) where
+  -- within the limit that both fit, and the other way round
+  pub append-fits : (t e : List ℕ) → Fits n L t → Fits m L e → Fits (n + m) L (t ++ e)
+  append-fits t e f g =
       slots-fits (n + m) L (t ++ e) (omega (arith, length-append t e, f .len, g .len))
-      (omega (arith, slots-join t e, fits-slots n L t L-pos f, fits-slots m L e L-pos g))
+      (omega (arith, slots-append t e, fits-slots n L t L-pos f, fits-slots m L e L-pos g))
 
   pub gate-fits : (u : List ℕ) → Fits (n + m) L u → Fits n L (take n u)
   gate-fits u f = slots-fits n L (take n u) (length-take-le n u (omega (arith, f .len))) (omega (arith, slots-cut n u, fits-slots (n + m) L u L-pos f))
@@ -171,25 +178,25 @@ module _ {n m : ℕ} {gate extras whole : List Need} (j : Joined n m gate extras
 
   -- "every gate job keeps the start it has without them"
   pub gate-keeps : (u t e : List ℕ) → BestKept (n + m) whole L u → BestKept n gate L t → BestKept m extras L e → slots e ≤ slots t → take n u ≡ t
-  gate-keeps u t e bu bt be short = go (bt .2 (take n u) (gate-kept j u (bu .0)) (gate-fits u (bu .1)))
+  gate-keeps u t e bu bt be short = go (bt .2 (take n u) (gate-kept U u (bu .0)) (gate-fits u (bu .1)))
     where
       -- u is no worse than the gate's list with other extras
       beats : (x : List ℕ) → Kept (Gives extras) (at x) → Fits m L x → NoWorse (n + m) u (t ++ x)
-      beats x k f = bu .2 (t ++ x) (join-kept j t x (bt .1 .len) (bt .0) k) (join-fits t x (bt .1) f)
+      beats x k f = bu .2 (t ++ x) (append-kept U t x (bt .1 .len) (bt .0) k) (append-fits t x (bt .1) f)
 
       -- with the best extras: so it has no more slots than the gate alone
       as-short : slots u ≤ slots t
-      as-short = ⊎-elim (λ q. omega (arith, q, slots-join t e)) (λ q. omega (arith, q .0, slots-join t e)) (beats e (be .0) (be .1))
+      as-short = ⊎-elim (λ q. omega (arith, q, slots-append t e)) (λ q. omega (arith, q .0, slots-append t e)) (beats e (be .0) (be .1))
 
-      -- with its own: were the gate's list preferred to its own gate, the joined list would be preferred to it
+      -- with its own: were the gate's list preferred to the gate's starts in u, it would with the extras of u be preferred to u
       preferred : slots t ≡ slots (take n u) → Preferred n t (take n u) → ⊥
       preferred s p =
-          ⊎-elim (λ q. omega (arith, q, s, slots-join t (drop n u), slots-cut n u))
+          ⊎-elim (λ q. omega (arith, q, s, slots-append t (drop n u), slots-cut n u))
           (λ q. pref .lacks (rw (← (Weak-antisym (n + m) u (t ++ drop n u) (q .1) (inr pref))) at (pref .has)))
-          (beats (drop n u) (extras-kept j u (bu .0)) (extras-fit u (bu .1)))
+          (beats (drop n u) (extras-kept U u (bu .0)) (extras-fit u (bu .1)))
         where
           pref : Preferred (n + m) (t ++ drop n u) u
-          pref = rw (take-append-drop n u) at (join-preferred j t (take n u) (drop n u) (bt .1 .len) (gate-fits u (bu .1) .len) p)
+          pref = rw (take-append-drop n u) at (append-preferred U t (take n u) (drop n u) (bt .1 .len) (gate-fits u (bu .1) .len) p)
 
       go : NoWorse n t (take n u) → take n u ≡ t
       go (inl q) = absurd (omega (arith, q, as-short, slots-cut n u))

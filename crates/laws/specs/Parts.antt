@@ -11,6 +11,7 @@ use Rattle.rules.specs.Needs.{Need, Gives, NeedsIn, Chain, one, more, Circle}
 use Rattle.rules.specs.Program.{Kept}
 use Rattle.rules.specs.Windows.{Formula1, release, swap, tail, width}
 use Rattle.laws.specs.Counting.{pigeonhole-by, passing, passing-in, passing-distinct, most-ge, most-le}
+use Rattle.laws.specs.Circles.{start-in}
 use Rattle.laws.specs.Releases.{Case, nobody, single, double, release-case, case-value, release-formula, release-only, value1-is}
 use Rattle.laws.specs.Deadlines.{swap-gives, swap-in, reversed-chain}
 use Rattle.laws.specs.Width.{window, window-is, width-window}
@@ -85,38 +86,33 @@ same-kept n ds ds-in = part-kept {f = λ i. i} record {
   takers = λ i c h a. (c, a, refl);
 }
 
--- job j is job i of a part
+-- job j of the n jobs with the needs ds is the job at `index` of a part with `size` jobs
 pub record InPart (n : ℕ) (ds : List Need) (j : ℕ) : Type 0 where
   pub size : ℕ
   pub needs : List Need
   pub place : ℕ → ℕ
   pub part : Part size n needs ds place
-  pub i : ℕ
-  pub i-in : i < size
-  pub is : j ≡ place i
+  pub index : ℕ
+  pub index-in : index < size
+  pub job-is : j ≡ place index
 
 -- job j is in a part whose needs the starts τ keep
 abbrev pub KeptPart : ℕ → List Need → (ℕ → ℕ) → ℕ → Type 0
 KeptPart n ds τ j = (w : InPart n ds j) × Kept (Gives (w .needs)) (λ i. τ (w .place i))
 
--- a whole of which every job is in a part
+-- n jobs with the needs ds
 module _ (n : ℕ) (ds : List Need) (ds-in : NeedsIn n ds) where
-  -- a chain begins with a job
-  chain-in : (a b : ℕ) → Chain ds a b → a < n
-  chain-in _ _ (one a b m) = ds-in a b m .0
-  chain-in _ _ (more a b c m r) = ds-in a b m .0
-
-  -- where no part has a circle there is none
+  -- where each job is in a part without a circle there is none
   pub parts-free : ((j : ℕ) → j < n → (w : InPart n ds j) × ¬ (Circle (w .needs))) → ¬ (Circle ds)
-  parts-free parts (a, c) = go (parts a (chain-in a a c))
+  parts-free parts (a, c) = go (parts a (start-in n ds ds-in a a c))
     where
       go : (w : InPart n ds a) × ¬ (Circle (w .needs)) → ⊥
       go (w, free) =
-          let v = chain-part (w .part) (w .i) a a (w .i-in) (w .is) c in
-          let e : w .i ≡ v .0 = w .part .once (w .i) (v .0) (sym (w .is) ∙ v .2) in
-          free (w .i, rw (← e) at (v .1))
+          let v = chain-part (w .part) (w .index) a a (w .index-in) (w .job-is) c in
+          let e : w .index ≡ v .0 = w .part .once (w .index) (v .0) (sym (w .job-is) ∙ v .2) in
+          free (w .index, rw (← e) at (v .1))
 
-  -- where starts keep the needs of the part that each job is in, they keep all
+  -- where each job is in a part whose needs the starts τ keep, they keep all
   pub parts-kept : (τ : ℕ → ℕ) → ((j : ℕ) → j < n → KeptPart n ds τ j) → Kept (Gives ds) τ
   parts-kept τ parts = record {
     later = λ g c a. later g c a (parts g (ds-in g c a .0));
@@ -126,21 +122,23 @@ module _ (n : ℕ) (ds : List Need) (ds-in : NeedsIn n ds) where
     where
       later : (g c : ℕ) → Gives ds g c → KeptPart n ds τ g → τ g + 1 ≤ τ c
       later g c a (w, k) =
-          let u = w .part .takers (w .i) c (w .i-in) (rw (w .is) at a) in
-          omega (arith, ap τ (w .is), ap τ (u .2), k .later (w .i) (u .0) (u .1))
+          let u = w .part .takers (w .index) c (w .index-in) (rw (w .job-is) at a) in
+          omega (arith, ap τ (w .job-is), ap τ (u .2), k .later (w .index) (u .0) (u .1))
 
       gives : (g i j : ℕ) → Gives ds g i → Gives ds g j → τ i ≡ τ g + 1 → τ j ≡ τ g + 1 → KeptPart n ds τ g → i ≡ j
       gives g i j a b x y (w, k) =
-          let u = w .part .takers (w .i) i (w .i-in) (rw (w .is) at a) in
-          let v = w .part .takers (w .i) j (w .i-in) (rw (w .is) at b) in
-          let e = k .give-one (w .i) (u .0) (v .0) (u .1) (v .1) (omega (arith, ap τ (w .is), ap τ (u .2), x)) (omega (arith, ap τ (w .is), ap τ (v .2), y)) in
+          let u = w .part .takers (w .index) i (w .index-in) (rw (w .job-is) at a) in
+          let v = w .part .takers (w .index) j (w .index-in) (rw (w .job-is) at b) in
+          let e = k .give-one (w .index) (u .0) (v .0) (u .1) (v .1)
+          (omega (arith, ap τ (w .job-is), ap τ (u .2), x)) (omega (arith, ap τ (w .job-is), ap τ (v .2), y)) in
           u .2 ∙ ap (w .place) e ∙ sym (v .2)
 
       takes : (i j c : ℕ) → Gives ds i c → Gives ds j c → τ i + 1 ≡ τ c → τ j + 1 ≡ τ c → KeptPart n ds τ c → i ≡ j
       takes i j c a b x y (w, k) =
-          let u = w .part .givers i (w .i) (w .i-in) (rw (w .is) at a) in
-          let v = w .part .givers j (w .i) (w .i-in) (rw (w .is) at b) in
-          let e = k .take-one (u .0) (v .0) (w .i) (u .1) (v .1) (omega (arith, ap τ (w .is), ap τ (u .2), x)) (omega (arith, ap τ (w .is), ap τ (v .2), y)) in
+          let u = w .part .givers i (w .index) (w .index-in) (rw (w .job-is) at a) in
+          let v = w .part .givers j (w .index) (w .index-in) (rw (w .job-is) at b) in
+          let e = k .take-one (u .0) (v .0) (w .index) (u .1) (v .1)
+          (omega (arith, ap τ (w .job-is), ap τ (u .2), x)) (omega (arith, ap τ (w .job-is), ap τ (v .2), y)) in
           u .2 ∙ ap (w .place) e ∙ sym (v .2)
 
 -- ---- windows and width

@@ -5,16 +5,22 @@ use mathlib.Core.Bool.{Bool, _&&_}
 use mathlib.Core.List.{List}
 use Prim.Native.Nat.{ℕ, _+_, _≤_, _<_}
 use native.Mathlib.Omega.{arith}
+use lib.ListN.{length}
 use lib.Dec.{T, leb}
 use lib.IntN.{ℤ, pos, _+ℤ_, _-ℤ_}
 use lib.Signed.{leZ}
 use Rattle.rules.specs.Basics.{count, most}
 use Rattle.rules.specs.Needs.{Need, NeedsIn, Circle}
+use Rattle.rules.specs.JobFile.{JobFile}
 use Rattle.rules.specs.Windows.{Formula1, Formula2, release, tail, Holds, holdsb, widthOf, width}
 use Rattle.laws.specs.Tests.{T-and, tests}
 use Rattle.laws.specs.Counting.{count-le, most-ge, most-le}
 use Rattle.laws.specs.Releases.{release-only}
 use Rattle.laws.specs.Deadlines.{holds-is, deadline-only}
+
+-- "The file's width", of a file that says f
+abbrev pub fileWidth : JobFile → ℕ
+fileWidth f = width (length (f .jobs)) (f .needs) (f .limit)
 
 -- the window of job i holds slot s, by releases, tails and makespan
 unfoldable pub window : (ℕ → ℕ) → (ℕ → ℕ) → ℕ → ℕ → ℕ → Bool

@@ -10,11 +10,11 @@ use lib.ListN.{length, replicate, List·getD-eq-default}
 use lib.Seq.{ext-getD}
 use lib.Dec.{T}
 use Rattle.rules.specs.Basics.{choose, at}
-use Rattle.rules.specs.Needs.{Need, NeedsIn, Chain, one, more, circleFree}
+use Rattle.rules.specs.Needs.{Need, NeedsIn, circleFree}
 use Rattle.rules.specs.Windows.{releases, release, swap, tail}
 use Rattle.laws.specs.Tests.{T-true, T-false}
 use Rattle.laws.specs.Lists.{tabulate-at, length-tabulate}
-use Rattle.laws.specs.Circles.{circle-free}
+use Rattle.laws.specs.Circles.{start-in, circle-free}
 use Rattle.laws.specs.Releases.{length-releases}
 use Rattle.jobset.specs.declared.Set.{Set}
 use Rattle.jobset.specs.Sets.{member, empty, isEmpty}
@@ -71,12 +71,9 @@ module _ {n : ℕ} {arcs : List ℕ} {left : Set} {level sets : List ℕ} {heigh
       done : (p : ℕ) → member left p ≡ false
       done p = ap (λ (s : Set). member s p) z ∙ member-empty p
 
-      start-in : (a b : ℕ) → Chain needs a b → a < n
-      start-in _ _ (one a b m) = needs-in a b m .0
-      start-in _ _ (more a b c m r) = needs-in a b m .0
-
       free : T (circleFree n needs)
-      free = circle-free n needs needs-in .1 (λ c. w .levelled needs needs-in held .uncircled (c .0) (start-in (c .0) (c .0) (c .1)) (done (63 - c .0)) (c .1))
+      free = circle-free n needs needs-in .1 (λ c.
+          w .levelled needs needs-in held .uncircled (c .0) (start-in n needs needs-in (c .0) (c .0) (c .1)) (done (63 - c .0)) (c .1))
 
       each : (p : ℕ) → p < 64 → Dec (63 - p < n) → at level p ≡ release n needs (63 - p)
       each p h (yes l) =
