@@ -76,7 +76,10 @@ fn eight_boards(tester: &mut Tester) {
 
 /// Files of a gate, of extra jobs, and of both with no need between them, under one limit and with eight boards.
 fn extra_jobs(tester: &mut Tester) {
-    let [mut gate, mut extras] = [16, 4].map(|most| Draft::sound(&mut tester.random, most));
+    let (mut gate, mut extras) = match tester.random.below(4) {
+        0 => gate_and_longer_chain(&mut tester.random),
+        _ => (Draft::sound(&mut tester.random, 16), Draft::sound(&mut tester.random, 4)),
+    };
     gate.limit = gate.limit.max(tester.random.pick(&[1, extras.limit]));
     extras.limit = gate.limit;
     gate.boards = tester.random.pick(&[None, Some(8)]);
@@ -92,14 +95,32 @@ fn extra_jobs(tester: &mut Tester) {
     }
 }
 
+/// A job with some takers, of which the last begins a chain, and extras that need as many slots as the gate or a few more:
+/// with more slots the gate takes its lower takers first.
+fn gate_and_longer_chain(random: &mut Random) -> (Draft, Draft) {
+    let (takers, chain) = (random.between(2, 3) as u8, random.between(1, 3) as u8);
+    let jobs = 1 + takers + chain;
+    let needs: Vec<(u8, u8)> =
+        (2..=1 + takers).map(|taker| (1, taker)).chain((1 + takers..jobs).map(|job| (job, job + 1))).collect();
+    let slots = takers.max(chain + 1) + 1;
+    let longer = slots + random.below(3) as u8;
+    (Draft::plain(longer, jobs as usize, &needs), Draft::chain(longer, longer))
+}
+
 /// Of the tables of a gate, of extra jobs and of both: how they stand, and whether what request 12 says of that is so.
 fn extras_verdict(planned: &[Result<Vec<u8>, u8>; 3]) -> (&'static str, Option<Verdict>) {
     match planned {
-        [Ok(gate), Ok(extras), Ok(both)] if extras[4] <= gate[4] => {
-            let (alone, together) = (starts_of(gate).unwrap_or_default(), starts_of(both).unwrap_or_default());
-            ("no longer than the gate", Some(agree(&together[..alone.len()], &alone[..])))
+        [Ok(gate), Ok(extras), Ok(both)] => {
+            let (Some(alone), Some(together)) = (starts_of(gate), starts_of(both)) else {
+                return ("a table that does not read", Some(Err("a table that does not read".to_string())));
+            };
+            let kept = agree(together.get(..alone.len()).unwrap_or_default(), &alone[..]);
+            match (extras[4] <= gate[4], kept) {
+                (true, kept) => ("no longer than the gate", Some(kept)),
+                (false, Ok(())) => ("longer than the gate, its starts kept", None),
+                (false, Err(_)) => ("longer than the gate, its starts moved", None),
+            }
         }
-        [Ok(_), Ok(_), Ok(_)] => ("longer than the gate", None),
         [Ok(_), Ok(_), Err(number)] => ("each group planned, not both", Some(agree(number, &12))),
         [_, _, Ok(_)] => ("both planned, not each group", Some(Err("a group alone is refused".to_string()))),
         _ => ("a group refused, and both", None),

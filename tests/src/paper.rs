@@ -122,23 +122,27 @@ fn extras_cases() -> Vec<(&'static str, Vec<u8>, Answer)> {
             branch.with_extras(&Draft::chain(3, 3)).bytes(),
             Planned(vec![0, 1, 2, 2, 0, 1, 2], vec![1, 1, 1, 3, 2, 2, 2]),
         ),
-        ("a shorter gate alone", late.bytes(), Planned(vec![0, 2, 1, 2], vec![1, 2, 1, 1])),
         (
-            "the gate with a chain of 4",
+            "a gate of three slots with a chain of 4",
             late.with_extras(&Draft::chain(4, 4)).bytes(),
             Planned(vec![0, 1, 2, 3, 0, 1, 2, 3], vec![1, 1, 1, 1, 2, 2, 2, 2]),
         ),
+        (
+            "eight jobs and one, limit 1",
+            Draft::plain(1, 8, &[]).with_extras(&Draft::plain(1, 1, &[])).bytes(),
+            Refused(12),
+        ),
     ];
-    for boards in 2..=7 {
+    let names = ["2 boards", "3 boards", "4 boards", "5 boards", "6 boards", "7 boards"];
+    for (name, boards) in names.into_iter().zip(2..) {
         let gate = Draft { boards: Some(boards), ..Draft::plain(3, 3, &[(1, 3), (2, 3)]) };
-        let both = (1..boards).fold(gate.clone(), |both, _| both.with_extras(&Draft::chain(3, 3)));
-        let on_boards = (1..=boards).flat_map(|board| [board; 3]).collect();
-        cases.push(("two givers, 2 to 7 boards", gate.bytes(), Planned(vec![0, 0, 2], vec![1, 2, 1])));
-        cases.push((
-            "two givers and a chain of 3 for each other board",
-            both.bytes(),
-            Planned([0, 1, 2].repeat(boards as usize), on_boards),
-        ));
+        let none = Draft { boards: Some(boards), ..Draft::plain(3, 0, &[]) };
+        let chains = |front: Draft| (1..boards).fold(front, |front, _| front.with_extras(&Draft::chain(3, 3)));
+        let beside = |first, last| (first..=last).flat_map(|board| [board; 3]).collect();
+        let starts = |count: u8| [0, 1, 2].repeat(count as usize);
+        cases.push((name, gate.bytes(), Planned(vec![0, 0, 2], vec![1, 2, 1])));
+        cases.push((name, chains(none).bytes(), Planned(starts(boards - 1), beside(1, boards - 1))));
+        cases.push((name, chains(gate).bytes(), Planned(starts(boards), beside(1, boards))));
     }
     cases
 }
@@ -218,7 +222,7 @@ fn planned(tester: &mut Tester, name: &str, file: &[u8], answer: Answer) {
         _ => false,
     };
     let verdict = if right { Ok(()) } else { Err(format!("{found:?}")) };
-    tester.report.case("named: the reference's answer", verdict, || name.to_string());
+    tester.report.case("named: the planner's answer", verdict, || name.to_string());
 }
 
 /// The answer for the printed example, printed as the planning program does.
@@ -226,7 +230,7 @@ fn printed_example(tester: &mut Tester) {
     tester.label = "printed example".to_string();
     let text = printed(&tester.plan("named: plan", &PRINTED_FILE));
     let verdict = if text == PRINTED { Ok(()) } else { Err(text) };
-    tester.report.case("named: the reference's answer", verdict, || "printed example".to_string());
+    tester.report.case("named: the planner's answer", verdict, || "printed example".to_string());
 }
 
 /// Tables for needs 1-3, 2-3, limit 4: starts and boards of the three jobs, and what the check says.

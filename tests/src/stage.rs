@@ -32,7 +32,8 @@ impl Stage {
         }
     }
 
-    /// Plans a file with buffers of these lengths; answers what document 01 says, beside the verdict.
+    /// Plans a file with buffers of these lengths; gives what the library answered, the bytes of the table or the refusal,
+    /// beside the verdict.
     pub fn plan(
         &mut self,
         random: &mut Random,
@@ -59,7 +60,11 @@ impl Stage {
             .and_then(|()| unchanged("the job file", lent_file, file))
             .and_then(|()| overwritten("the working buffer", work, work_noise, &ZEROS[..zeroed]))
             .and_then(|()| overwritten("the table buffer", table, table_noise, written));
-        (expected, verdict)
+        let answered = match answer.checked_sub(REFUSED) {
+            Some(number) => Err(number as u8),
+            None => Ok(table[MARGIN..].iter().take(answer as usize).copied().collect()),
+        };
+        (answered, verdict)
     }
 
     /// Checks a table for a file.

@@ -20,7 +20,7 @@ impl Tester {
         Tester { stage: Stage::new(), report: Report::default(), random: Random::new(0, 0), label: String::new() }
     }
 
-    /// Plans a file with buffers that are large enough; answers what document 01 says.
+    /// Plans a file with buffers that are large enough; gives what the library answered.
     pub fn plan(&mut self, group: &'static str, file: &[u8]) -> Result<Vec<u8>, u8> {
         let work = self.random.pick(&[WORK_BYTES, WORK_BYTES, WORK_BYTES + 1, LONGEST_WORK]);
         let table = self.random.pick(&[LONGEST_TABLE, LONGEST_TABLE, LONGEST_TABLE + 1, 4000]);
@@ -35,12 +35,12 @@ impl Tester {
     }
 
     fn plan_in(&mut self, group: &'static str, file: &[u8], work: usize, table: usize) -> Result<Vec<u8>, u8> {
-        let (expected, verdict) = self.stage.plan(&mut self.random, file, work, table);
-        let answer = expected.as_ref().map_or_else(|number| format!("refused {number:>2}"), |_| "table".to_string());
+        let (answered, verdict) = self.stage.plan(&mut self.random, file, work, table);
+        let answer = answered.as_ref().map_or_else(|number| format!("refused {number:>2}"), |_| "table".to_string());
         self.report.answer("plan", answer);
         let label = &self.label;
         self.report.case(group, verdict, || format!("{label}, buffers {work} and {table}, file {}", shown(file)));
-        expected
+        answered
     }
 
     /// Checks a table for a file; answers what document 01 says.
