@@ -40,8 +40,9 @@ pub record Extended (c : ℕ) (gate extras whole : JobFile) : Type 0 where
   pub extras-boards : mostBoards extras ≡ c
   pub whole-boards : mostBoards whole ≡ c
 
--- ---- a readable file with eight boards: tag 9 is absent, or 8
+-- ---- a file with eight boards
 
+-- f is readable and has eight boards: tag 9 is absent, or 8
 record EightBoards (f : JobFile) : Type 0 where
   ok : Readable f
   eight : maxBoards ≤ mostBoards f
@@ -94,6 +95,7 @@ module _ {f : JobFile} (b : EightBoards f) where
 
 module _ {gate extras whole : JobFile} (gate-ok : Readable gate) (extras-ok : Readable extras) (whole-ok : Readable whole)
     (x : Extended maxBoards gate extras whole) where
+  -- each has eight boards
   gate-eight : EightBoards gate
   gate-eight = record { ok = gate-ok; eight = omega (arith, x .gate-boards) }
 
