@@ -111,11 +111,12 @@ fn gate_and_longer_chain(random: &mut Random) -> (Draft, Draft) {
 fn extras_verdict(planned: &[Result<Vec<u8>, u8>; 3]) -> (&'static str, Option<Verdict>) {
     match planned {
         [Ok(gate), Ok(extras), Ok(both)] => {
-            let (Some(alone), Some(together)) = (starts_of(gate), starts_of(both)) else {
+            let (Some(alone), Some(others), Some(together)) = (starts_of(gate), starts_of(extras), starts_of(both))
+            else {
                 return ("a table that does not read", Some(Err("a table that does not read".to_string())));
             };
             let kept = agree(together.get(..alone.len()).unwrap_or_default(), &alone[..]);
-            match (extras[4] <= gate[4], kept) {
+            match (lists::slots(&others) <= lists::slots(&alone), kept) {
                 (true, kept) => ("no longer than the gate", Some(kept)),
                 (false, Ok(())) => ("longer than the gate, its starts kept", None),
                 (false, Err(_)) => ("longer than the gate, its starts moved", None),

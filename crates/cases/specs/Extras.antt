@@ -10,10 +10,11 @@ use Rattle.rules.specs.Basics.{at, range}
 use Rattle.rules.specs.Fields.{refused, got, after}
 use Rattle.rules.specs.JobFile.{JobFile, mostBoards, readFile}
 use Rattle.rules.specs.Table.{Table, starts}
+use Rattle.laws.specs.Fields.{got-same}
 use Rattle.laws.specs.JobFile.{needs-in, readable}
 use Rattle.laws.specs.Demands.{asked}
 use Rattle.laws.specs.Extras.{behind, union-append}
-use Rattle.laws.specs.ExtraFiles.{Extended, Says, KeepsStarts}
+use Rattle.laws.specs.ExtraFiles.{Extended, Says, ThreeTables}
 use Rattle.cases.specs.Case.{Schedule, Case, fileOf, schedule, scheduled, Holds}
 use Rattle.cases.specs.Searched.{bytesb, bytes-are}
 use Rattle.cases.specs.Computed.{computed, wholeCase}
@@ -131,12 +132,9 @@ two-boards-move-starts =
 schedule-is : {file : List ℕ} {S : Schedule} {T : Table} → Holds (plain file (got S)) → asked file ≡ got T → schedule T ≡ S
 unfolding scheduled after
 schedule-is {S = S} {T = T} h e = got-same (schedule T) S (sym (ap scheduled e) ∙ h .answers)
-  where
-    got-same : (R S : Schedule) → got R ≡ got S → R ≡ S
-    got-same R S q = cc
 
 -- so what `starts-kept` gives with eight boards does not hold of these files
-pub two-boards-not-kept : ¬ (KeepsStarts twoGivers chainOfThree chainBehind)
+pub two-boards-not-kept : ¬ (ThreeTables twoGivers chainOfThree chainBehind)
 unfolding schedule
 two-boards-not-kept k =
     let g = schedule-is (two-boards-move-starts .gate-holds) (k .gate-gets .leads) in

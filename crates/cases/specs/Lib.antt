@@ -1,4 +1,5 @@
--- The cases of document 01, "Gates on paper": what a case is and when it holds, two ways to prove one, and the table with its theorem.
+-- The cases of document 01, "Gates on paper": what a case is and when it holds, two ways to prove one, and the table with its theorem; examples
+-- of extra jobs behind a gate's (document 02, request 12).
 pub mod Case
 pub mod Searched
 pub mod Others

@@ -19,6 +19,7 @@ use Rattle.rules.specs.Windows.{width}
 use Rattle.rules.specs.Boards.{Capped, Runs}
 use Rattle.rules.specs.Table.{Table, starts, encode}
 use Rattle.rules.specs.Answers.{Outcome, tableOf, planTable, written, plan, check}
+use Rattle.laws.specs.Fields.{got-same}
 use Rattle.laws.specs.JobFile.{Readable, needs-in, readable}
 use Rattle.laws.specs.Program.{program-is}
 use Rattle.laws.specs.Width.{fileWidth}
@@ -140,12 +141,12 @@ module _ {gate extras whole : JobFile} (gate-ok : Readable gate) (extras-ok : Re
     gate-plans : (T : Table) × (planTable gate ≡ got T)
     gate-plans =
         part-plans gate-eight (gate-part union) (x .gate-limit) (take n (starts W)) (gate-kept union (starts W) (best .0))
-        (gate-fits union L (whole-ok .limit-in .0) (starts W) (best .1))
+        (gate-fits n m L (whole-ok .limit-in .0) (starts W) (best .1))
 
     extras-plans : (T : Table) × (planTable extras ≡ got T)
     extras-plans =
         part-plans extras-eight (extras-part union) (x .extras-limit) (drop n (starts W)) (extras-kept union (starts W) (best .0))
-        (extras-fit union L (whole-ok .limit-in .0) (starts W) (best .1))
+        (extras-fit n m L (whole-ok .limit-in .0) (starts W) (best .1))
 
     -- "every gate job keeps the start it has without them": the starts of the whole begin with those of the gate
     keeps : (G E : Table) → planTable gate ≡ got G → planTable extras ≡ got E → E .slots ≤ G .slots → take (length (starts G)) (starts W) ≡ starts G
@@ -174,7 +175,7 @@ module _ {gate extras whole : JobFile} (gate-ok : Readable gate) (extras-ok : Re
       free = union-free union (g .free) (r .free)
 
       fits : Fits (n + m) L (starts G ++ starts E)
-      fits = append-fits union L (whole-ok .limit-in .0) (starts G) (starts E) (rw (x .gate-limit) at (g .best .1)) (rw (x .extras-limit) at (r .best .1))
+      fits = append-fits n m L (whole-ok .limit-in .0) (starts G) (starts E) (rw (x .gate-limit) at (g .best .1)) (rw (x .extras-limit) at (r .best .1))
 
       within : Within whole (starts G ++ starts E)
       within = (append-kept union (starts G) (starts E) (g .best .1 .len) (g .best .0) (r .best .0), rw size fits)
@@ -203,7 +204,8 @@ module _ {file : List ℕ} {f : JobFile} (s : Says file f) where
 pub record Gets (file : List ℕ) (T : Table) : Type 0 where
   -- the questions lead to it
   pub leads : asked file ≡ got T
-  -- whatever the full buffers held: number 0, its bytes at the front of the table buffer, all behind them as it was, the working buffer cleared
+  -- whatever the full buffers held: number 0, its bytes at the front of the table buffer and all behind them as it was, and the first 65,536 bytes of the
+  -- working buffer zero
   pub writes : (work table : List ℕ) → workSize ≤ length work → tableSize ≤ length table → plan file work table ≡ written (got T) work table
   -- and these bytes pass the check, which reads them as T
   pub passes : check file (encode T) ≡ got T
@@ -215,8 +217,8 @@ gets file bytes T e = record {
   passes = table-passes file bytes T e;
 }
 
--- the tables of a gate, of extra jobs, and of both
-pub record KeepsStarts (gate extras whole : List ℕ) : Type 0 where
+-- the tables of a gate, of extra jobs, and of both: the gate's starts are kept where the extras have no more slots
+pub record ThreeTables (gate extras whole : List ℕ) : Type 0 where
   pub gate-table : Table
   pub extras-table : Table
   pub whole-table : Table
@@ -228,8 +230,8 @@ pub record KeepsStarts (gate extras whole : List ℕ) : Type 0 where
 
 module _ {gate extras whole : List ℕ} {g e w : JobFile} (gate-says : Says gate g) (extras-says : Says extras e) (whole-says : Says whole w)
     (x : Extended maxBoards g e w) where
-  -- "the two together are planned": then so is each group alone, and the gate keeps its starts
-  pub starts-kept : (work table : List ℕ) → plan whole work table .number ≡ 0 → KeepsStarts gate extras whole
+  -- "the two together are planned": then so is each group alone; and where the extras have no more slots than the gate, it keeps its starts
+  pub starts-kept : (work table : List ℕ) → plan whole work table .number ≡ 0 → ThreeTables gate extras whole
   starts-kept work table zero =
       let W = answers-table whole work table zero in
       let p = sym (says-asked whole-says) ∙ W .1 in
@@ -270,13 +272,10 @@ module _ {gate extras whole : List ℕ} {g e w : JobFile} (gate-says : Says gate
       go (inr z) = inr (number (refused 12) z)
 
 -- "however the extras change within these terms": with other extras behind it the gate has the same starts
-pub extras-may-change : {gate extras others whole changed : List ℕ} (x : KeepsStarts gate extras whole) (y : KeepsStarts gate others changed)
+pub extras-may-change : {gate extras others whole changed : List ℕ} (x : ThreeTables gate extras whole) (y : ThreeTables gate others changed)
     → x .extras-table .slots ≤ x .gate-table .slots → y .extras-table .slots ≤ y .gate-table .slots
     → let n = length (starts (x .gate-table)) in take n (starts (x .whole-table)) ≡ take n (starts (y .whole-table))
 extras-may-change x y p q = x .keeps p ∙ ap starts same ∙ sym (ap (λ (T : Table). take (length (starts T)) (starts (y .whole-table))) same ∙ y .keeps q)
   where
-    got-same : (S T : Table) → got S ≡ got T → S ≡ T
-    got-same S T e = cc
-
     same : x .gate-table ≡ y .gate-table
     same = got-same (x .gate-table) (y .gate-table) (sym (x .gate-gets .leads) ∙ y .gate-gets .leads)

@@ -163,26 +163,32 @@ slots-cut n u = ap slots (sym (take-append-drop n u)) ∙ slots-append (take n u
 abbrev pub BestKept : ℕ → List Need → ℕ → List ℕ → Type 0
 BestKept k needs L t = BestWithin k L (λ u. Kept (Gives needs) (at u)) (some t)
 
-module _ {n m : ℕ} {gate extras whole : List Need} (U : UnionIn n m gate extras whole) (L : ℕ) (L-pos : 0 < L) where
-  -- within the limit that both fit, and the other way round
+-- n jobs and m behind them, and a limit
+module _ (n m L : ℕ) (L-pos : 0 < L) where
+  -- where both lists fit it, the two one behind the other do
   pub append-fits : (t e : List ℕ) → Fits n L t → Fits m L e → Fits (n + m) L (t ++ e)
   append-fits t e f g =
       slots-fits (n + m) L (t ++ e) (omega (arith, length-append t e, f .len, g .len))
       (omega (arith, slots-append t e, fits-slots n L t L-pos f, fits-slots m L e L-pos g))
 
+  -- and where those do, so does each
   pub gate-fits : (u : List ℕ) → Fits (n + m) L u → Fits n L (take n u)
   gate-fits u f = slots-fits n L (take n u) (length-take-le n u (omega (arith, f .len))) (omega (arith, slots-cut n u, fits-slots (n + m) L u L-pos f))
 
   pub extras-fit : (u : List ℕ) → Fits (n + m) L u → Fits m L (drop n u)
   extras-fit u f = slots-fits m L (drop n u) (omega (arith, length-drop n u, f .len)) (omega (arith, slots-cut n u, fits-slots (n + m) L u L-pos f))
 
+module _ {n m : ℕ} {gate extras whole : List Need} (U : UnionIn n m gate extras whole) (L : ℕ) (L-pos : 0 < L) where
   -- "every gate job keeps the start it has without them"
   pub gate-keeps : (u t e : List ℕ) → BestKept (n + m) whole L u → BestKept n gate L t → BestKept m extras L e → slots e ≤ slots t → take n u ≡ t
-  gate-keeps u t e bu bt be short = go (bt .2 (take n u) (gate-kept U u (bu .0)) (gate-fits u (bu .1)))
+  gate-keeps u t e bu bt be short = go (bt .2 (take n u) (gate-kept U u (bu .0)) gate-fit)
     where
+      gate-fit : Fits n L (take n u)
+      gate-fit = gate-fits n m L L-pos u (bu .1)
+
       -- u is no worse than the gate's list with other extras
       beats : (x : List ℕ) → Kept (Gives extras) (at x) → Fits m L x → NoWorse (n + m) u (t ++ x)
-      beats x k f = bu .2 (t ++ x) (append-kept U t x (bt .1 .len) (bt .0) k) (append-fits t x (bt .1) f)
+      beats x k f = bu .2 (t ++ x) (append-kept U t x (bt .1 .len) (bt .0) k) (append-fits n m L L-pos t x (bt .1) f)
 
       -- with the best extras: so it has no more slots than the gate alone
       as-short : slots u ≤ slots t
@@ -193,10 +199,10 @@ module _ {n m : ℕ} {gate extras whole : List Need} (U : UnionIn n m gate extra
       preferred s p =
           ⊎-elim (λ q. omega (arith, q, s, slots-append t (drop n u), slots-cut n u))
           (λ q. pref .lacks (rw (← (Weak-antisym (n + m) u (t ++ drop n u) (q .1) (inr pref))) at (pref .has)))
-          (beats (drop n u) (extras-kept U u (bu .0)) (extras-fit u (bu .1)))
+          (beats (drop n u) (extras-kept U u (bu .0)) (extras-fit n m L L-pos u (bu .1)))
         where
           pref : Preferred (n + m) (t ++ drop n u) u
-          pref = rw (take-append-drop n u) at (append-preferred U t (take n u) (drop n u) (bt .1 .len) (gate-fits u (bu .1) .len) p)
+          pref = rw (take-append-drop n u) at (append-preferred U t (take n u) (drop n u) (bt .1 .len) (gate-fit .len) p)
 
       go : NoWorse n t (take n u) → take n u ≡ t
       go (inl q) = absurd (omega (arith, q, as-short, slots-cut n u))

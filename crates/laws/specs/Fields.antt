@@ -16,6 +16,10 @@ use Rattle.laws.specs.Numbers.{bytes-take, bytes-drop}
 
 -- ---- answers
 
+-- answers that are not refusals are the same where what they give is
+pub got-same : {A : Type 0} (a b : A) → got a ≡ got b → a ≡ b
+got-same a b e = cc
+
 -- where an answer is not a refusal, the question before it was answered yes
 pub ask-got : {A : Type 0} (b : Bool) (q : ℕ) (r : Answer A) (a : A) → ask b q r ≡ got a → T b × (r ≡ got a)
 unfolding ask

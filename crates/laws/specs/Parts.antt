@@ -1,5 +1,5 @@
--- A part of a file: jobs that no need joins to the others, a union of components of the precedence graph. It has the windows that it has alone and is no
--- wider than the whole; where every job is in a part, the rules that the parts keep are kept by the whole. Assumes nothing.
+-- A part of a file: jobs that no need joins to the others, a union of components of the precedence graph. Without a circle it has the windows that it has
+-- alone and is no wider than the whole; where every job is in a part, the rules that the parts keep are kept by the whole. Assumes nothing.
 use mathlib.Core.Path.{_≡_, refl, sym, ap, _∙_}
 use mathlib.Core.Bool.{Bool}
 use mathlib.Core.List.{List, map}

@@ -38,7 +38,7 @@ unfolding tabulate
 rows-ok row zero j h = tt
 rows-ok row (suc k) j h = (h j (omega arith) (omega arith), rows-ok row k (suc j) (λ i a b. h i (omega arith) (omega arith)))
 
--- ---- a readable file without a circle, no wider than eight
+-- ---- a readable file; then one without a circle, no wider than eight
 
 module _ (f : JobFile) (ok : Readable f) where
   -- a list within the limit has no more jobs in a slot than the file is wide
