@@ -48,7 +48,7 @@ module _ (n : ℕ) (needs : List Need) (needs-in : NeedsIn n needs) where
 
   -- ---- a job that is marked is on no circle
 
-  chain-back : (a b f : ℕ) → Chain needs a b → T (marked (rounds n needs f) b) → (h : ℕ) × (h < f) × T (marked (rounds n needs h) a)
+  pub chain-back : (a b f : ℕ) → Chain needs a b → T (marked (rounds n needs f) b) → (h : ℕ) × (h < f) × T (marked (rounds n needs h) a)
   chain-back a b zero c t = absurd (none-marked n needs b t)
   chain-back _ _ (suc f) (one a b m) t = (f, omega arith, giver-first f a b m t)
   chain-back _ _ (suc f) (more a b c m r) t = go (chain-back b c (suc f) r t)

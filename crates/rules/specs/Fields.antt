@@ -1,6 +1,6 @@
 -- Answers to questions, and the fields of a file (document 01, "Job file and table file", "The questions"). Assumes nothing.
 use mathlib.Core.Bool.{Bool, true, false, _&&_}
-use mathlib.Core.List.{List, _∷_}
+use mathlib.Core.List.{List, [], _∷_, _++_}
 use Prim.Native.Nat.{ℕ, zero, suc, _+_, _-_}
 use lib.ListN.{length, take, drop}
 use lib.Dec.{leb, ltb}
@@ -53,3 +53,10 @@ unfoldable pub overFields : {A : Type 0} → (A → ℕ → Answer A) → ℕ �
 overFields step zero bs a s = got s
 overFields step (suc k) bs a s =
     choose (ltb a (length bs)) (after (step s a) (λ t. overFields step k bs (fieldEnd bs a) t)) (got s)
+
+-- the bytes of the fields from offset a on, each as it stands, but those at the offsets that `out` says; bounded likewise
+unfoldable pub fieldsBut : (ℕ → Bool) → ℕ → List ℕ → ℕ → List ℕ
+fieldsBut out zero bs a = []
+fieldsBut out (suc k) bs a =
+    let rest = fieldsBut out k bs (fieldEnd bs a) in
+    choose (ltb a (length bs)) (choose (out a) rest (part bs a (fieldEnd bs a) ++ rest)) []

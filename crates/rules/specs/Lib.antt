@@ -1,4 +1,4 @@
--- The rules of document 01, as definitions alone, a file for each subject.
+-- The rules of documents 01 and 02, as definitions alone, a file for each subject.
 pub mod Sizes
 pub mod Basics
 pub mod Numbers
@@ -11,3 +11,4 @@ pub mod Preference
 pub mod Boards
 pub mod Table
 pub mod Answers
+pub mod Implied

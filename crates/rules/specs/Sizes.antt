@@ -28,3 +28,7 @@ workSize = 65536
 -- "The longest table is 1,222 bytes" (question 1)
 abbrev pub tableSize : ℕ
 tableSize = 1222
+
+-- two entries for each need that a file has room for: a need takes five bytes (document 02, request 5; law `list-fits`)
+abbrev pub pairsSize : ℕ
+pairsSize = 6552
