@@ -84,13 +84,20 @@ module _ {A : Type 0} (step : A → ℕ → Answer A) where
       go (refused q) f = refl
       go (got t) f = ap (λ (r : Answer A). choose (ltb a (length bs)) r (got s)) (f t (omega (arith, after-head bs a)))
 
-  -- what each field keeps, all of them keep
+  -- what each field keeps, with the offset behind it, all of them keep
+  pub overFields-keeps-at : (P : ℕ → A → Type 0) (bs : List ℕ) → ((s t : A) (a : ℕ) → P a s → step s a ≡ got t → P (fieldEnd bs a) t)
+      → (k a : ℕ) (s t : A) → P a s → overFields step k bs a s ≡ got t → (e : ℕ) × P e t
+  unfolding overFields choose
+  overFields-keeps-at P bs keeps zero a s t p e = let q : s ≡ t = cc in (a, subst (P a) q p)
+  overFields-keeps-at P bs keeps (suc k) a s t p e = go (ltb a (length bs)) e (λ u q. overFields-keeps-at P bs keeps k (fieldEnd bs a) u t q)
+    where
+      rest : A → Answer A
+      rest = overFields step k bs (fieldEnd bs a)
+
+      go : (b : Bool) → choose b (after (step s a) rest) (got s) ≡ got t → ((u : A) → P (fieldEnd bs a) u → rest u ≡ got t → (e : ℕ) × P e t) → (e : ℕ) × P e t
+      go true e r = let w = after-got (step s a) rest t e in r (w .0) (keeps s (w .0) a p (w .1)) (w .2)
+      go false e r = let q : s ≡ t = cc in (a, subst (P a) q p)
+
   pub overFields-keeps : (P : A → Type 0) → ((s t : A) (a : ℕ) → P s → step s a ≡ got t → P t)
       → (k : ℕ) (bs : List ℕ) (a : ℕ) (s t : A) → P s → overFields step k bs a s ≡ got t → P t
-  unfolding overFields choose
-  overFields-keeps P keeps zero bs a s t p e = let q : s ≡ t = cc in subst P q p
-  overFields-keeps P keeps (suc k) bs a s t p e = go (ltb a (length bs)) e (λ u q. overFields-keeps P keeps k bs (fieldEnd bs a) u t q)
-    where
-      go : (b : Bool) → choose b (after (step s a) (λ t. overFields step k bs (fieldEnd bs a) t)) (got s) ≡ got t → ((u : A) → P u → overFields step k bs (fieldEnd bs a) u ≡ got t → P t) → P t
-      go true e r = let w = after-got (step s a) (λ t. overFields step k bs (fieldEnd bs a) t) t e in r (w .0) (keeps s (w .0) a p (w .1)) (w .2)
-      go false e r = let q : s ≡ t = cc in subst P q p
+  overFields-keeps P keeps k bs a s t p e = overFields-keeps-at (λ _. P) bs keeps k a s t p e .1

@@ -4,18 +4,24 @@ use mathlib.Core.Logic.{_⊎_, inl, inr, ⊎-elim, _↔_}
 use mathlib.Core.Bool.{Bool, false, not, _&&_}
 use mathlib.Core.List.{List, [], _∷_, _++_, map, List·Memᴰ, List·Memᴰ·head, List·Memᴰ·tail, List·Memᴰ·not-nil}
 use mathlib.Core.List.{List·Memᴰ·append-cases, Memᴰ·append-left, Memᴰ·append-right}
-use Prim.Native.Nat.{ℕ, zero, suc, _+_, _≤_, _<_}
+use Prim.Native.Nat.{ℕ, zero, suc, _+_, _*_, _≤_, _<_}
 use native.Mathlib.Omega.{arith}
 use native.Mathlib.Decide.{decLt, ℕ-discrete}
 use native.Mathlib.Nat.{zero-add}
 use lib.ListN.{length, length-replicate, List·getD-eq-default}
-use lib.Dec.{T, eqb}
+use lib.Dec.{T, leb, eqb}
+use Rattle.rules.specs.Sizes.{maxFile, pairsSize}
 use Rattle.rules.specs.Basics.{range, Distinct}
+use Rattle.rules.specs.Numbers.{Bytes}
+use Rattle.rules.specs.Fields.{got}
 use Rattle.rules.specs.Needs.{Need, Gives, givesb, NeedsIn, Chain, one, more, Circle, marked, rounds}
-use Rattle.rules.specs.Implied.{others, Implied, reachedBy, reached, reachesb, impliedb, impliedTakers, impliedFrom, impliedNeeds}
-use Rattle.laws.specs.Tests.{T-and, T-eqb, tests}
+use Rattle.rules.specs.JobFile.{JobFile, readFile}
+use Rattle.rules.specs.Implied.{others, Implied, reachedBy, reached, reachesb, impliedb, impliedTakers, impliedFrom, impliedNeeds, pairNumbers}
+use Rattle.laws.specs.Tests.{T-and, T-leb, T-eqb, tests}
 use Rattle.laws.specs.Lists.{Rising, map-mem, map-mem⁻¹, filter-mem, filter-mem⁻¹, filter-rising, range-rising, tabulate-at, length-tabulate}
 use Rattle.laws.specs.Counting.{pigeonhole, range-below}
+use Rattle.laws.specs.Fields.{ask-got}
+use Rattle.laws.specs.JobFile.{readable, needs-few, needs-in as file-needs-in}
 use Rattle.laws.specs.Program.{gives-is}
 use Rattle.laws.specs.Circles.{snoc, none-marked, giver-first, free-marked}
 
@@ -245,3 +251,31 @@ module _ (n : ℕ) (needs : List Need) where
   list-few needs-in free =
       pigeonhole (impliedNeeds n needs) needs (order-distinct (impliedNeeds n needs) list-order)
       (λ d m. list-is needs-in free (d .0) (d .1) .0 m .need)
+
+-- ---- the numbers of the pairs
+
+-- those of two lists, one behind the other
+pub pairs-append : (ds es : List Need) → pairNumbers (ds ++ es) ≡ pairNumbers ds ++ pairNumbers es
+unfolding pairNumbers
+pairs-append [] es = refl
+pairs-append (d ∷ ds) es = ap (λ (ns : List ℕ). suc (d .0) ∷ suc (d .1) ∷ ns) (pairs-append ds es)
+
+-- two for each pair
+pub pairs-length : (ds : List Need) → length (pairNumbers ds) ≡ 2 * length ds
+unfolding pairNumbers
+pairs-length [] = refl
+pairs-length (d ∷ ds) = omega (arith, pairs-length ds)
+
+-- a readable file has room for no more needs than a full list has for pairs
+pub list-fits : (file : List ℕ) → Bytes file → (f : JobFile) → readFile file ≡ got f → ¬ (Circle (f .needs))
+    → length (pairNumbers (impliedNeeds (length (f .jobs)) (f .needs))) ≤ pairsSize
+list-fits file bytes f read free =
+    let n = length (f .jobs) in
+    let short : length file ≤ maxFile = unfold readFile in T-leb (length file) maxFile .0 (ask-got (leb (length file) maxFile) 2 _ f read .0) in
+    omega (
+      arith,
+      short,
+      needs-few file f read,
+      list-few n (f .needs) (file-needs-in f (readable file bytes f read)) free,
+      pairs-length (impliedNeeds n (f .needs)),
+    )

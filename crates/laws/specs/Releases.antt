@@ -1,20 +1,21 @@
 -- Releases: without circles formula (1) has one solution, n rounds compute it, and no start list that keeps the rules starts a job earlier. Assumes nothing.
 use mathlib.Core.Path.{_≡_, refl, sym, ap, _∙_}
 use mathlib.Core.Logic.{_≢_, _⊎_, inl, inr, _↔_}
-use mathlib.Core.Bool.{Bool, true, false}
+use mathlib.Core.Bool.{Bool, true, false, _||_}
 use mathlib.Core.List.{List, [], _∷_, List·Memᴰ, List·Memᴰ·head, List·Memᴰ·tail, List·Memᴰ·cases-cons, List·Memᴰ·not-nil}
 use Prim.Native.Nat.{ℕ, zero, suc, _+_, _≤_, _<_, max}
 use native.Mathlib.Omega.{arith}
 use native.Mathlib.Decide.{decLt, ℕ-discrete}
 use native.Mathlib.Nat.{zero-add}
 use lib.ListN.{length, length-replicate, List·getD-eq-default}
-use lib.Dec.{T, eqb}
-use Rattle.rules.specs.Basics.{choose, at, imp, all}
+use lib.Dec.{T, ltb, eqb}
+use Rattle.rules.specs.Basics.{choose, at, imp, all, count}
 use Rattle.rules.specs.Needs.{Need, Gives, NeedsIn, Circle, marked, rounds}
 use Rattle.rules.specs.Program.{Kept, all₂}
 use Rattle.rules.specs.Windows.{Value1, Formula1, latest, untied, releaseBy, releases, release}
-use Rattle.laws.specs.Tests.{T-eqb, not-all, not-imp, by-choice, tests}
+use Rattle.laws.specs.Tests.{T-or, T-ltb, T-eqb, not-all, not-imp, by-choice, tests}
 use Rattle.laws.specs.Lists.{tabulate-at, length-tabulate, zeros-at}
+use Rattle.laws.specs.Counting.{count-lt, count-most}
 use Rattle.laws.specs.Circles.{none-marked, giver-first, free-marked}
 
 -- ---- formula (1) by cases
@@ -205,6 +206,89 @@ module _ (n : ℕ) (needs : List Need) (needs-in : NeedsIn n needs) where
   -- and nothing else does
   pub release-only : ¬ (Circle needs) → (r : ℕ → ℕ) → ((i : ℕ) → i < n → Formula1 needs r i) → (i : ℕ) → i < n → r i ≡ release n needs i
   release-only free r h i l = only r h n i l (free-marked n needs needs-in free i l)
+
+-- ---- how releases lie
+
+module _ {n : ℕ} {needs : List Need} (needs-in : NeedsIn n needs) (free : ¬ (Circle needs)) where
+  abbrev rel : ℕ → ℕ
+  rel = release n needs
+
+  -- the case of formula (1) that holds at a job, with its release
+  pub release-is : (i : ℕ) → i < n → Case needs rel i (rel i)
+  release-is i h =
+      let e = value1-is needs rel i (rel i) .0 (release-formula n needs needs-in free i h) in
+      rw (← e) at (release-case needs rel i)
+
+  case-later : (g k v : ℕ) → Gives needs g k → Case needs rel k v → rel g + 1 ≤ v
+  case-later g k v a (nobody h e) = absurd (h g a)
+  case-later g k v a (single j b l e) = go (ℕ-discrete g j)
+    where
+      go : Dec (g ≡ j) → rel g + 1 ≤ v
+      go (yes p) = rw p (omega arith)
+      go (no p) = omega (arith, l g a p)
+  case-later g k v a (double i j b c d p l e) = omega (arith, l g a)
+
+  -- the release of a taker is later than its giver's
+  pub release-later : (g k : ℕ) → Gives needs g k → rel g + 1 ≤ rel k
+  release-later g k a = case-later g k (rel k) a (release-is k (needs-in g k a .1))
+
+  -- job j has a release below v
+  earlier : ℕ → ℕ → Bool
+  earlier v j = ltb (rel j) v
+
+  is-earlier : (v j : ℕ) → T (earlier v j) ↔ (rel j < v)
+  unfolding earlier
+  is-earlier v j = T-ltb (rel j) v
+
+  -- behind the release of j there is one job more with an earlier release; where another has the same release, two
+  one-more : (v j : ℕ) → j < n → rel j < v → count (earlier (rel j)) n < count (earlier v) n
+  one-more v j h l =
+      count-lt (earlier (rel j)) (earlier v) n j (λ i _ t. is-earlier v i .1 (omega (arith, is-earlier (rel j) i .0 t))) h
+      (λ t. omega (arith, is-earlier (rel j) j .0 t)) (is-earlier v j .1 l)
+
+  two-more : (v j k : ℕ) → j < n → k < n → j ≢ k → rel j ≡ rel k → rel j < v → count (earlier (rel j)) n + 2 ≤ count (earlier v) n
+  two-more v j k h u d e l = omega (
+    arith,
+    count-lt (earlier (rel j)) or-j n j (λ i _ t. or-is i .1 (inl t)) h (λ t. omega (arith, is-earlier (rel j) j .0 t)) (or-is j .1 (inr (T-eqb j j .1 refl))),
+    count-lt or-j (earlier v) n k (λ i _ t. within i (or-is i .0 t)) u (λ t. apart (or-is k .0 t)) (is-earlier v k .1 (omega arith)),
+  )
+    where
+      or-j : ℕ → Bool
+      or-j i = earlier (rel j) i || eqb i j
+
+      or-is : (i : ℕ) → T (or-j i) ↔ (T (earlier (rel j) i) ⊎ T (eqb i j))
+      or-is i = T-or (earlier (rel j) i) (eqb i j)
+
+      within : (i : ℕ) → T (earlier (rel j) i) ⊎ T (eqb i j) → T (earlier v i)
+      within i (inl t) = is-earlier v i .1 (omega (arith, is-earlier (rel j) i .0 t))
+      within i (inr t) = is-earlier v i .1 (rw (T-eqb i j .0 t) l)
+
+      apart : T (earlier (rel j) k) ⊎ T (eqb k j) → ⊥
+      apart (inl t) = omega (arith, is-earlier (rel j) k .0 t)
+      apart (inr t) = d (sym (T-eqb k j .0 t))
+
+  case-many : (b i v : ℕ) → v ≤ suc b → Case needs rel i v → ((j : ℕ) → rel j ≤ b → j < n → rel j ≤ count (earlier (rel j)) n) → v ≤ count (earlier v) n
+  case-many b i v l (nobody h e) many = omega arith
+  case-many b i v l (single j a h e) many =
+      let c = needs-in j i a .0 in
+      omega (arith, many j (omega arith) c, one-more v j c (omega arith))
+  case-many b i v l (double j k a d x p h e) many =
+      let c = needs-in j i a .0 in
+      omega (arith, many j (omega arith) c, two-more v j k c (needs-in k i d .0) x p (omega arith))
+
+  -- as many jobs as the release of i says have an earlier one; b bounds the release
+  as-many : (b i : ℕ) → rel i ≤ b → i < n → rel i ≤ count (earlier (rel i)) n
+  as-many zero i l h = omega arith
+  as-many (suc b) i l h = case-many b i (rel i) l (release-is i h) (as-many b)
+
+  -- so no release is as large as the number of jobs
+  pub release-below : (i : ℕ) → i < n → rel i < n
+  release-below i h = omega (
+    arith,
+    as-many (rel i) i (omega arith) h,
+    count-lt (earlier (rel i)) (λ j. true) n i (λ j _ t. tt) h (λ t. omega (arith, is-earlier (rel i) i .0 t)) tt,
+    count-most (λ j. true) n,
+  )
 
 -- ---- the lower bound
 

@@ -23,7 +23,7 @@ use Rattle.windows.specs.Windows.{table, cap, levelSet, firstSets, least
 
 -- ---- arrays of sets
 
-table-at : (f : ℕ → Set) (k : ℕ) → k < 66 → setAt (table f) k ≡ f k
+pub table-at : (f : ℕ → Set) (k : ℕ) → k < 66 → setAt (table f) k ≡ f k
 unfolding table
 table-at f k h = ap (λ (x : ℕ). record { bits = x }) (tabulate-at (λ s. f s .bits) 66 0 k 0 h ∙ ap (λ (x : ℕ). f x .bits) (zero-add k))
 

@@ -134,7 +134,7 @@ fn capped(level: u8) -> usize
 }
 
 // The jobs of each level; the last set has all higher levels too.
-fn by_level(levels: &[u8; 64], jobs: usize) -> [u64; 66]
+pub fn by_level(levels: &[u8; 64], jobs: usize) -> [u64; 66]
     requires { ⌜ jobs ≤ 64 ⌝ }
     ensures { λ r. ⌜ r ≡ table (levelSet (now (levels .entry)) jobs) ⌝ }
 {

@@ -1,0 +1,123 @@
+-- `implied::implied_needs` meets its contract. Assumes nothing.
+use mathlib.Core.Path.{_≡_, refl, sym, _∙_}
+use mathlib.Core.Bool.{true}
+use Prim.Native.Nat.{ℕ}
+use native.Mathlib.Omega.{arith}
+use borrow.Author.Needs.{needs}
+use borrow.Author.Tests.{not-true, not-false}
+use lib.ListN.{length, replicate, length-replicate}
+use Rattle.jobset.specs.Arrays.{giversIn, takersIn, length-part}
+use Rattle.windows.specs.Windows.{table, levelSet}
+use Rattle.implied.specs.Reach.{reachEach, fromTop}
+use Rattle.implied.specs.Answer.{no-room, file-refused, FileRead, jobs-few, circle, rows-fit, all-listed}
+use Rattle.implied.proofs.implied_needs.Statement.{statement}
+use Rattle.implied.proofs.implied_needs.Tie as tie
+
+-- the tables that the reader leaves, and the file is read
+long : (c : tie.After-read-file) → length (c .read-file .last .1 .1 .0) ≡ 260
+long c = c .read-file .ensures .1
+
+is-read : (c : tie.Else2) → FileRead (c .before .before .before .before .before .before .before .args .file .now) (c .before .before .before .before .before .before .before .args .list .now) (c .before .read-file .result) (c .before .read-file .last .1 .0)
+    (giversIn (c .before .read-file .last .1 .1 .0)) (takersIn (c .before .read-file .last .1 .1 .0))
+is-read c = record {
+  room = omega arith;
+  bytes = λ i. omega (arith, c .before .before .before .before .before .before .shared-slice-known .given i);
+  reads = c .before .read-file .ensures .0;
+  ok = c .if2 .left;
+}
+
+givers-long : (c : tie.After-read-file) → length (giversIn (c .read-file .last .1 .1 .0)) ≡ 64
+givers-long c = length-part 0 64 (c .read-file .last .1 .1 .0) (omega (arith, long c))
+
+takers-long : (c : tie.After-read-file) → length (takersIn (c .read-file .last .1 .1 .0)) ≡ 64
+takers-long c = length-part 64 64 (c .read-file .last .1 .1 .0) (omega (arith, long c))
+
+-- without a circle
+is-free : (c : tie.Else3) → c .before .before .levels .result .ok ≡ true
+is-free c = not-false _ (c .if3 .left)
+
+-- what each job reaches, by the levels that the circle test gave
+reach-is : (c : tie.After-reached) → c .reached .result
+    ≡ reachEach (takersIn (c .before .before .before .before .before .before .before .before .before .before .before .before .read-file .last .1 .1 .0)) (fromTop (table (levelSet (c .before .before .before .before .before .before .before .before .before .levels .result .level) (c .before .before .before .before .before .before .before .before .before .before .before .before .read-file .result .jobs))) 66) (replicate 64 0)
+reach-is c = rw (c .before .before .before .before .by-level .ensures) at (c .reached .ensures)
+
+returns : tie.Need-returns
+returns c = no-room (c .before .before .before .args .file .now) (c .before .before .before .args .list .now) (omega arith)
+
+read-file-requires : tie.Need-read-file-requires
+read-file-requires c κs = (length-replicate {A = ℕ} 64 0, refl)
+
+returns-2 : tie.Need-returns-2
+returns-2 c = file-refused (c .before .before .before .before .before .before .before .args .file .now) (c .before .before .before .before .before .before .before .args .list .now) (omega arith) _ _ _ _ (c .before .read-file .ensures .0) (c .if2 .taken)
+
+array-share-prefix-tables : tie.Need-array-share-prefix-tables
+array-share-prefix-tables c = omega (arith, long (c .before))
+
+slice-aggregate-levels : tie.Need-slice-aggregate-levels
+slice-aggregate-levels c = sym (givers-long (c .before .before))
+
+levels-requires : tie.Need-levels-requires
+levels-requires c κs = (jobs-few (is-read (c .before)), omega (arith, givers-long (c .before .before)))
+
+returns-3 : tie.Need-returns-3
+returns-3 c = circle (is-read (c .before .before .before .before)) (c .before .before .levels .result) (c .before .before .levels .ensures) (not-true _ (c .if3 .taken))
+
+by-level-requires : tie.Need-by-level-requires
+by-level-requires c κs = jobs-few (is-read (c .before .before .before .before .before .before))
+
+sub-reached : tie.Need-sub-reached
+sub-reached c = search needs
+
+part-reached-start : tie.Need-part-reached-start
+part-reached-start c = search needs
+
+part-reached-end : tie.Need-part-reached-end
+part-reached-end c = omega (arith, long (c .before .before .before .before .before .before .before .before .before))
+
+reached-requires : tie.Need-reached-requires
+reached-requires c κs = omega (arith, takers-long (c .before .before .before .before .before .before .before .before .before .before .before))
+
+sub-put-rows : tie.Need-sub-put-rows
+sub-put-rows c = search needs
+
+part-put-rows-start : tie.Need-part-put-rows-start
+part-put-rows-start c = search needs
+
+part-put-rows-end : tie.Need-part-put-rows-end
+part-put-rows-end c = omega (arith, long (c .before .before .before .before .before .before .before .before .before .before .before .before .before))
+
+put-rows-requires : tie.Need-put-rows-requires
+put-rows-requires c κs =
+    let r = is-read (c .before .before .before .before .before .before .before .before .before .before .before .before .before .before .before) in
+    (jobs-few r, omega (arith, takers-long (c .before .before .before .before .before .before .before .before .before .before .before .before .before .before .before .before)), rw (reach-is (c .before .before .before .before)) (rows-fit r (c .before .before .before .before .before .before .before .before .before .before .before .before .before .levels .result) (c .before .before .before .before .before .before .before .before .before .before .before .before .before .levels .ensures) (is-free (c .before .before .before .before .before .before .before .before .before .before .before))))
+
+same-length : tie.Need-same-length
+same-length c = search needs
+
+returns-4 : tie.Need-returns-4
+returns-4 c =
+    rw (c .before .before .put-rows .ensures .0, c .before .before .put-rows .ensures .1, reach-is (c .before .before .before .before .before .before .before))
+    (all-listed (is-read (c .before .before .before .before .before .before .before .before .before .before .before .before .before .before .before .before .before .before)) (c .before .before .before .before .before .before .before .before .before .before .before .before .before .before .before .before .levels .result) (c .before .before .before .before .before .before .before .before .before .before .before .before .before .before .before .before .levels .ensures) (is-free (c .before .before .before .before .before .before .before .before .before .before .before .before .before .before)))
+
+pub implied-needs-spec : {M : Type 1} → statement M
+implied-needs-spec =
+    tie.close
+    (tie.spec
+    returns
+    read-file-requires
+    returns-2
+    array-share-prefix-tables
+    slice-aggregate-levels
+    levels-requires
+    returns-3
+    by-level-requires
+    sub-reached
+    part-reached-start
+    part-reached-end
+    reached-requires
+    sub-put-rows
+    part-put-rows-start
+    part-put-rows-end
+    put-rows-requires
+    same-length
+    returns-4)

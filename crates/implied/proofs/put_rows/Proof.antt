@@ -1,0 +1,66 @@
+-- `implied::put_rows` meets its contract. The rows of the givers from `giver` up are still to come, from entry `count` on. Assumes nothing.
+use mathlib.Core.Path.{_≡_}
+use Prim.Native.Nat.{_-_}
+use native.Mathlib.Omega.{arith}
+use Rattle.implied.specs.ListingLaws.{RowsSoFar, rows-start, rows-room, rows-put, rows-size, rows-end}
+use Rattle.implied.proofs.put_rows.Statement.{statement}
+use Rattle.implied.proofs.put_rows.Tie as tie
+
+abbrev Inv-loop : tie.InvT-loop
+Inv-loop takers reach jobs list₀ count₀ giver₀ list count giver = RowsSoFar takers reach jobs list₀ giver count list
+
+abbrev μ-loop : tie.MeasureT-loop
+μ-loop takers reach jobs list₀ count₀ giver₀ list count giver = jobs - giver
+
+loop-holds : tie.Need-loop-holds Inv-loop μ-loop
+loop-holds c = let a = c .before .before .args in rows-start (a .takers .now) (a .reach .now) (a .jobs) (a .list .now)
+
+sub-t10 : tie.Need-sub-t10 Inv-loop μ-loop
+sub-t10 c = omega arith
+
+mul-t11 : tie.Need-mul-t11 Inv-loop μ-loop
+mul-t11 c = omega arith
+
+shared-slice-read-t13 : tie.Need-shared-slice-read-t13 Inv-loop μ-loop
+shared-slice-read-t13 c = omega arith
+
+implied-takers-requires : tie.Need-implied-takers-requires Inv-loop μ-loop
+implied-takers-requires c κs = tt
+
+put-row-requires : tie.Need-put-row-requires Inv-loop μ-loop
+put-row-requires c κs = rw (c .before .implied-takers .ensures) (omega arith, omega arith, rows-room (c .before .before .before .before .loop .inv) (c .before .before .before .loop-test .taken) (c .before .before .before .before .before .before .before .pre .2))
+
+add-giver : tie.Need-add-giver Inv-loop μ-loop
+add-giver c = omega arith
+
+loop-less : tie.Need-loop-less Inv-loop μ-loop
+loop-less c = omega arith
+
+loop-again : tie.Need-loop-again Inv-loop μ-loop
+loop-again c =
+    let row = c .before .before .before .before .implied-takers .ensures in
+    rows-put (c .before .before .before .before .before .before .before .loop .inv) (c .before .before .before .before .before .before .loop-test .taken) (c .before .before .put-row .result) _ (rw row at (c .before .before .put-row .ensures .0)) (rw row at (c .before .before .put-row .ensures .1))
+
+same-length : tie.Need-same-length Inv-loop μ-loop
+same-length c = c .before .loop .inv .size
+
+returns : tie.Need-returns Inv-loop μ-loop
+returns c = (rows-size (c .before .loop .inv) (omega arith), rows-end (c .before .loop .inv) (omega arith))
+
+pub put-rows-spec : {M : Type 1} → statement M
+put-rows-spec =
+    tie.close
+    (tie.spec
+    Inv-loop
+    μ-loop
+    loop-holds
+    sub-t10
+    mul-t11
+    shared-slice-read-t13
+    implied-takers-requires
+    put-row-requires
+    add-giver
+    loop-less
+    loop-again
+    same-length
+    returns)

@@ -1,0 +1,135 @@
+// Needs that follow from others: document 02, request 5.
+//
+// Jobs are counted from 0 here. In a set, and in an array of sets, job i stands at place 63 - i (crate jobset).
+use jobset::Set;
+ghost use mathlib.Core.Path.{_≡_};
+ghost use Prim.Native.Nat.{_+_, _-_, _≤_, _<_};
+ghost use lib.ListN.{length, replicate};
+ghost use Rattle.rules.specs.Implied.{listImplied};
+ghost use Rattle.jobset.specs.Sets.{empty, members, setAt};
+ghost use Rattle.implied.specs.Reach.{gather, reachEach, fromTop, impliedSet};
+ghost use Rattle.implied.specs.Listing.{put, takersOf, rowNumbers, rowsNumbers, listingOf};
+
+// A list of so many pairs; or the number of the question that said no.
+pub enum Listed {
+    Pairs(usize),
+    Refused(u8),
+}
+
+// The jobs that these takers reach, where `reach` has what each job reaches.
+fn beyond(reach: &[u64; 64], takers: Set) -> Set
+    ensures { λ r. ⌜ r ≡ gather (now (reach .entry)) (members takers) empty ⌝ }
+{
+    let mut all = Set::EMPTY;
+    let mut rest = takers;
+    while !rest.is_empty() {
+        let p = rest.lowest() as usize;
+        all = all.union(Set { bits: reach[p] });
+        rest = rest.rest();
+    }
+    all
+}
+
+// The jobs of a level get what they reach: their takers, and what these reach.
+fn reach_level(takers: &[u64], level: Set, reach: &mut [u64; 64])
+    requires { ⌜ 64 ≤ length (now takers) ⌝ }
+    ensures { λ _. ⌜ now (reach .exit) ≡ reachEach (now (takers .entry)) (members level) (now (reach .entry)) ⌝ }
+{
+    let mut rest = level;
+    while !rest.is_empty() {
+        let p = rest.lowest() as usize;
+        let next = Set { bits: takers[p] };
+        let all = next.union(beyond(reach, next));
+        reach[p] = all.bits;
+        rest = rest.rest();
+    }
+}
+
+// What each job reaches. A taker has a higher level than its giver: from the highest level down, takers come first.
+fn reached(takers: &[u64], levels: &[u64; 66]) -> [u64; 64]
+    requires { ⌜ 64 ≤ length (now takers) ⌝ }
+    ensures { λ r. ⌜ r ≡ reachEach (now (takers .entry)) (fromTop (now (levels .entry)) 66) (replicate 64 0) ⌝ }
+{
+    let mut reach = [0; 64];
+    let mut level = 66;
+    while level > 0 {
+        level -= 1;
+        let jobs = Set {
+            bits: levels[level],
+        };
+        reach_level(takers, jobs, &mut reach);
+    }
+    reach
+}
+
+// The takers of a job whose need follows from others: those that a taker reaches.
+fn implied_takers(takers: Set, reach: &[u64; 64]) -> Set
+    ensures { λ r. ⌜ r ≡ impliedSet takers (now (reach .entry)) ⌝ }
+{
+    takers.intersection(beyond(reach, takers))
+}
+
+// The pairs of a giver with each of these takers, in rising order, from entry `count` of the list on; gives the entry behind them.
+fn put_row(giver: usize, takers: Set, jobs: usize, list: &mut [u16], count: usize) -> usize
+    requires { ⌜ (jobs ≤ 64) × (giver < 64) × (count + length (rowNumbers giver (takersOf takers jobs 0)) ≤ length (now list)) ⌝ }
+    ensures size { λ r. ⌜ r ≡ count + length (rowNumbers giver (takersOf takers jobs 0)) ⌝ }
+    ensures entries { λ _. ⌜ now (list .exit) ≡ put count (rowNumbers giver (takersOf takers jobs 0)) (now (list .entry)) ⌝ }
+{
+    let mut next = count;
+    let mut k = 0;
+    while k < jobs {
+        let taker = k;
+        k += 1;
+        if takers.has(63 - taker) {
+            list[next] = (giver + 1) as u16;
+            list[next + 1] = k as u16;
+            next += 2;
+        }
+    }
+    next
+}
+
+// The pairs of all givers, in rising order; gives the entry behind them.
+fn put_rows(takers: &[u64], reach: &[u64; 64], jobs: usize, list: &mut [u16]) -> usize
+    requires { ⌜ (jobs ≤ 64) × (64 ≤ length (now takers)) × (length (rowsNumbers (now takers) (now reach) jobs jobs 0) ≤ length (now list)) ⌝ }
+    ensures size { λ r. ⌜ r ≡ length (rowsNumbers (now (takers .entry)) (now (reach .entry)) jobs jobs 0) ⌝ }
+    ensures entries { λ _. ⌜ now (list .exit) ≡ put 0 (rowsNumbers (now (takers .entry)) (now (reach .entry)) jobs jobs 0) (now (list .entry)) ⌝ }
+{
+    let mut count = 0;
+    let mut giver = 0;
+    while giver < jobs {
+        let all = Set {
+            bits: takers[63 - giver],
+        };
+        let row = implied_takers(all, reach);
+        count = put_row(giver, row, jobs, list, count);
+        giver += 1;
+    }
+    count
+}
+
+// The needs of a job file that follow from others: giver and taker of each, as the file numbers them, one pair behind the other from the
+// front of the list. A refusal leaves the list as it was.
+pub fn implied_needs(file: &[u8], list: &mut [u16]) -> Listed
+    ensures { λ r. ⌜ listingOf r (now (list .exit)) ≡ listImplied (now (file .entry)) (now (list .entry)) ⌝ }
+{
+    if list.len() < 6552 {
+        return Listed::Refused(1);
+    }
+    let mut offsets = [0; 64];
+    let mut tables = [0; 260];
+    let f = jobfile::read_file(file, &mut offsets, &mut tables);
+    let number = f.number;
+    if number != 0 {
+        return Listed::Refused(number);
+    }
+    let before = windows::levels(&tables[..64], f.jobs);
+    if !before.ok {
+        return Listed::Refused(11);
+    }
+    let level = before.level;
+    let levels = windows::by_level(&level, f.jobs);
+    let reach = reached(&tables[64..128], &levels);
+    let entries = put_rows(&tables[64..128], &reach, f.jobs, list);
+    Listed::Pairs(entries / 2)
+}
