@@ -1,17 +1,17 @@
 -- The ways out of `implied_needs`, by what it has tested. Assumes nothing.
 use mathlib.Core.Path.{_≡_, refl, sym, ap, ap₂, _∙_}
-use mathlib.Core.Bool.{true, false, _&&_}
+use mathlib.Core.Bool.{true, false}
 use mathlib.Core.List.{List, _++_, map}
 use Prim.Native.Nat.{ℕ, zero, suc, _+_, _-_, _/_, _≤_, _<_}
 use native.Mathlib.Omega.{arith}
 use lib.ListN.{length, replicate}
 use lib.Dec.{leb}
 use Rattle.rules.specs.Sizes.{pairsSize}
-use Rattle.rules.specs.Basics.{at, filter, range}
+use Rattle.rules.specs.Basics.{at, range}
 use Rattle.rules.specs.Fields.{Answer, refused, got, ask, after, numberOf}
-use Rattle.rules.specs.Needs.{Need, NeedsIn, givesb, Circle, circleFree}
+use Rattle.rules.specs.Needs.{Need, NeedsIn, circleFree}
 use Rattle.rules.specs.JobFile.{JobFile, readFile}
-use Rattle.rules.specs.Implied.{impliedb, impliedTakers, impliedFrom, impliedNeeds, impliedIn, Listing, pairNumbers, listed, listImplied}
+use Rattle.rules.specs.Implied.{impliedTakers, impliedFrom, impliedNeeds, impliedIn, pairNumbers, listed, listImplied}
 use Rattle.laws.specs.Tests.{T-true, T-leb, choose-yes, choose-no}
 use Rattle.laws.specs.Lists.{filter-same}
 use Rattle.laws.specs.Counting.{range-below}
@@ -20,7 +20,7 @@ use Rattle.laws.specs.JobFile.{readable, needs-in}
 use Rattle.laws.specs.Refusals.{read-got}
 use Rattle.laws.specs.Circles.{circle-free}
 use Rattle.laws.specs.Implied.{pairs-append, pairs-length, list-fits}
-use Rattle.jobset.specs.Sets.{member, setAt}
+use Rattle.jobset.specs.Sets.{setAt}
 use Rattle.jobset.specs.Arrays.{GiversAre}
 use Rattle.jobfile.specs.declared.Counts.{Counts}
 use Rattle.jobfile.specs.Reading.{stateOf, Held, Reads}

@@ -1,7 +1,7 @@
 -- What the functions that write the list give. Assumes nothing.
 use mathlib.Core.List.{List, [], _∷_, _++_, map}
 use Prim.Native.Nat.{ℕ, zero, suc, _+_, _-_}
-use lib.ListN.{length, set}
+use lib.ListN.{set}
 use Rattle.rules.specs.Basics.{filter, range}
 use Rattle.rules.specs.Implied.{Listing, pairNumbers}
 use Rattle.jobset.specs.declared.Set.{Set}

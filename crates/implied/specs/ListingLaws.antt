@@ -1,8 +1,8 @@
 -- Entries written one after the other, and the turns of the loops that write the pairs. Assumes nothing.
 use mathlib.Core.Path.{_≡_, refl, sym, ap, ap₂, _∙_}
-use mathlib.Core.Bool.{Bool, true, false}
+use mathlib.Core.Bool.{true, false}
 use mathlib.Core.List.{List, [], _∷_, _++_, append-assoc}
-use Prim.Native.Nat.{ℕ, zero, suc, _+_, _-_, _≤_, _<_}
+use Prim.Native.Nat.{ℕ, suc, _+_, _-_, _≤_, _<_}
 use native.Mathlib.Omega.{arith}
 use native.Mathlib.Numerals.{add-one}
 use lib.ListN.{length, set, take, drop, length-set, length-append, take-append-drop}
@@ -55,7 +55,9 @@ module _ (g : ℕ) (s : Set) (n k : ℕ) (h : k < n) where
   takers-step =
       let e : n - k ≡ suc (n - (k + 1)) = omega arith in
       ap (λ (c : ℕ). takersOf s c k) e
-      ∙ unfold takersOf filter range in ap (λ (j : ℕ). let r = filter (λ i. member s (63 - i)) (range (n - (k + 1)) j) in choose (member s (63 - k)) (k ∷ r) r) (sym (add-one k))
+      ∙ unfold takersOf filter range in ap (λ (j : ℕ).
+      let r = filter (λ i. member s (63 - i)) (range (n - (k + 1)) j) in
+      choose (member s (63 - k)) (k ∷ r) r) (sym (add-one k))
 
   -- job k is a taker, or it is none
   row-in : member s (63 - k) ≡ true → rowFrom g s n k ≡ (g + 1) ∷ (k + 1) ∷ rowFrom g s n (k + 1)
@@ -175,7 +177,13 @@ module _ {takers reach : List ℕ} {n : ℕ} {list₀ : List ℕ} {g count : ℕ
     rows-put next l e f = record {
       short = omega arith;
       size = ap length f ∙ length-put count (rowOf takers reach n g) list ∙ r .size;
-      entries = omega (arith, r .entries, e, ap length (rows-step takers reach n g h), length-append (rowOf takers reach n g) (rowsFrom takers reach n (g + 1)));
+      entries = omega (
+        arith,
+        r .entries,
+        e,
+        ap length (rows-step takers reach n g h),
+        length-append (rowOf takers reach n g) (rowsFrom takers reach n (g + 1)),
+      );
       same =
           ap₂ (λ (i : ℕ) (z : List ℕ). put i (rowsFrom takers reach n (g + 1)) z) e f
           ∙ sym (put-append count (rowOf takers reach n g) (rowsFrom takers reach n (g + 1)) list)

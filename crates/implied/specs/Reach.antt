@@ -1,4 +1,4 @@
--- What the functions for reached jobs give, over sets of places: arrays of sets, by place, of the takers of each job and of the jobs that it reaches. Assumes nothing.
+-- What the functions for reached jobs give, over arrays of sets by place: of the takers of each job, and of the jobs that it reaches. Assumes nothing.
 use mathlib.Core.List.{List, [], _∷_, _++_}
 use Prim.Native.Nat.{ℕ, zero, suc}
 use lib.ListN.{set}

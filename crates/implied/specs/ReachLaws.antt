@@ -56,7 +56,9 @@ in-gather sets (x ∷ ps) s q = (λ m. to (in-gather sets ps (union s (setAt set
 in-beyond : (reach : List ℕ) (takers : Set) (q : ℕ)
     → (member (beyond reach takers) q ≡ true) ↔ ((p : ℕ) × (p < 64) × (member takers p ≡ true) × (member (setAt reach p) q ≡ true))
 in-beyond reach takers q = (
-  λ m. ⊎-elim (λ w. absurd (none w)) (λ w. let v = in-members takers (w .0) .0 (w .1) in (w .0, v .0, v .1, w .2)) (in-gather reach (members takers) empty q .0 m),
+  λ m.
+      ⊎-elim (λ w. absurd (none w)) (λ w. let v = in-members takers (w .0) .0 (w .1) in (w .0, v .0, v .1, w .2))
+      (in-gather reach (members takers) empty q .0 m),
   λ (p, l, m, w). in-gather reach (members takers) empty q .1 (inr (p, in-members takers p .1 (l, m), w)),
 )
   where
@@ -201,7 +203,8 @@ module _ {n : ℕ} {needs : List Need} {takers : List ℕ} (t : Takers n needs t
   )
 
   -- one level more
-  level-right : (c : ℕ) (reach : List ℕ) → c < 66 → length reach ≡ 64 → RightFrom (suc c) reach → RightFrom c (reachEach takers (members (setAt levels c)) reach)
+  level-right : (c : ℕ) (reach : List ℕ) → c < 66 → length reach ≡ 64 → RightFrom (suc c) reach
+      → RightFrom c (reachEach takers (members (setAt levels c)) reach)
   level-right c reach h size higher i l a =
       each-right c (members (setAt levels c)) reach size (λ p m. in-level c p h .0 m) higher i l (which (decLt c (rel i)))
     where
@@ -223,7 +226,8 @@ module _ {n : ℕ} {needs : List Need} {takers : List ℕ} (t : Takers n needs t
   -- so each job has what it reaches
   pub all-right : (i : ℕ) → i < n → Right n needs (reachEach takers (fromTop levels 66) (replicate 64 0)) i
   all-right i h =
-      top-right 66 (replicate 64 0) (omega arith) (length-replicate {A = ℕ} 64 0) (λ j l a. absurd (omega (arith, release-below (t .needs-in) (t .free) j l, t .few))) i h (omega arith)
+      top-right 66 (replicate 64 0) (omega arith) (length-replicate {A = ℕ} 64 0)
+      (λ j l a. absurd (omega (arith, release-below (t .needs-in) (t .free) j l, t .few))) i h (omega arith)
 
   -- and the takers that are listed are those whose need follows from others
   pub implied-member : (reach : List ℕ) → ((i : ℕ) → i < n → Right n needs reach i) → (g k : ℕ) → g < n → k < n
@@ -239,4 +243,5 @@ pub level-turn : (takers levels reach : List ℕ) (c : ℕ) → 0 < c
 unfolding fromTop
 level-turn takers levels reach c h =
     let e : c ≡ suc (c - 1) = omega arith in
-    sym (reach-append takers (members (setAt levels (c - 1))) (fromTop levels (c - 1)) reach) ∙ ap (λ (k : ℕ). reachEach takers (fromTop levels k) reach) (sym e)
+    sym (reach-append takers (members (setAt levels (c - 1))) (fromTop levels (c - 1)) reach)
+    ∙ ap (λ (k : ℕ). reachEach takers (fromTop levels k) reach) (sym e)

@@ -6,7 +6,7 @@ ghost use mathlib.Core.Path.{_≡_};
 ghost use Prim.Native.Nat.{_+_, _-_, _≤_, _<_};
 ghost use lib.ListN.{length, replicate};
 ghost use Rattle.rules.specs.Implied.{listImplied};
-ghost use Rattle.jobset.specs.Sets.{empty, members, setAt};
+ghost use Rattle.jobset.specs.Sets.{empty, members};
 ghost use Rattle.implied.specs.Reach.{gather, reachEach, fromTop, impliedSet};
 ghost use Rattle.implied.specs.Listing.{put, takersOf, rowNumbers, rowsNumbers, listingOf};
 

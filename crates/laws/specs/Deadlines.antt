@@ -98,14 +98,15 @@ pub reversed-chain : (ds es : List Need) → ((g k : ℕ) → Gives ds g k → G
 reversed-chain ds es f _ _ (one a b m) = one b a (f a b m)
 reversed-chain ds es f _ _ (more a b c m r) = snoc es c b a (reversed-chain ds es f b c r) (f a b m)
 
+-- where needs have no circle, the reversed needs have none
+pub swap-free : {needs : List Need} → ¬ (Circle needs) → ¬ (Circle (map swap needs))
+swap-free {needs} free (a, c) = free (a, reversed-chain (map swap needs) needs (λ g k m. swap-gives needs g k .0 m) a a c)
+
 module _ (n : ℕ) (needs : List Need) (needs-in : NeedsIn n needs) where
   pub swap-in : NeedsIn n (map swap needs)
   swap-in g k m = let w = needs-in k g (swap-gives needs g k .0 m) in (w .1, w .0)
 
   module _ (free : ¬ (Circle needs)) (L : ℕ) where
-    swap-free : ¬ (Circle (map swap needs))
-    swap-free (a, c) = free (a, reversed-chain (map swap needs) needs (λ g k m. swap-gives needs g k .0 m) a a c)
-
     only : (d : ℕ → ℤ) → ((i : ℕ) → i < n → Formula2 needs L d i) → (f i : ℕ) → i < n → T (marked (rounds n (map swap needs) f) i)
         → d i ≡ pos L -ℤ pos (at (releases n (map swap needs) f) i)
     only d h zero i l t = absurd (none-marked n (map swap needs) i t)
@@ -130,7 +131,7 @@ module _ (n : ℕ) (needs : List Need) (needs-in : NeedsIn n needs) where
 
     -- what satisfies formula (2) is the limit less the tail
     pub deadline-only : (d : ℕ → ℤ) → ((i : ℕ) → i < n → Formula2 needs L d i) → (i : ℕ) → i < n → d i ≡ pos L -ℤ pos (tail n needs i)
-    deadline-only d h i l = only d h n i l (free-marked n (map swap needs) swap-in swap-free i l)
+    deadline-only d h i l = only d h n i l (free-marked n (map swap needs) swap-in (swap-free free) i l)
 
     -- and it does satisfy it
     pub deadline-formula : (i : ℕ) → i < n → Formula2 needs L (λ i. pos L -ℤ pos (tail n needs i)) i
@@ -149,7 +150,7 @@ module _ (n : ℕ) (needs : List Need) (needs-in : NeedsIn n needs) where
         due x = pos L -ℤ pos x
 
         f : Formula1 (map swap needs) r i
-        f = release-formula n (map swap needs) swap-in swap-free i l
+        f = release-formula n (map swap needs) swap-in (swap-free free) i l
 
   -- ---- time reversed: tails are releases
 

@@ -40,6 +40,39 @@ unfolding ask
 ask-no true q r n = absurd (n tt)
 ask-no false q r n = refl
 
+-- ---- two answers side by side
+
+module _ {A : Type 0} (R : A → A → Type 0) where
+  -- r is no refusal, and what it gives stands beside u: they have the relation R
+  abbrev pub GotBeside : A → Answer A → Type 0
+  GotBeside u r = (v : A) × (r ≡ got v) × R u v
+
+  -- nothing more is asked of either
+  pub got-beside : {u : A} (s t : A) → R s t → got s ≡ got u → GotBeside u (got t)
+  got-beside {u} s t r e = (t, refl, subst (λ (x : A). R x t) (got-same s u e) r)
+
+  -- a question of both, that the second answers yes where the first does
+  pub ask-beside : {u : A} (a b : Bool) (q : ℕ) {r s : Answer A} → (T a → T b) → (r ≡ got u → GotBeside u s) → ask a q r ≡ got u → GotBeside u (ask b q s)
+  unfolding ask
+  ask-beside {u} a true q {r} t h e = h (ask-got a q r u e .1)
+  ask-beside {u} a false q {r} t h e = absurd (t (ask-got a q r u e .0))
+
+  -- a choice in both, by the same test
+  pub choose-beside : {u : A} (b : Bool) {r r′ s s′ : Answer A} → (T b → r ≡ got u → GotBeside u s) → (r′ ≡ got u → GotBeside u s′)
+      → choose b r r′ ≡ got u → GotBeside u (choose b s s′)
+  unfolding choose
+  choose-beside true h h′ e = h tt e
+  choose-beside false h h′ e = h′ e
+
+  -- an answer and what follows it, in both
+  pub after-beside : {u : A} (r s : Answer A) (f g : A → Answer A) → ((x : A) → r ≡ got x → GotBeside x s)
+      → ((x y : A) → R x y → f x ≡ got u → GotBeside u (g y)) → after r f ≡ got u → GotBeside u (after s g)
+  unfolding after
+  after-beside {u} r s f g h next e =
+      let w = after-got r f u e in
+      let y = h (w .0) (w .1) in
+      rw (y .1) (next (w .0) (y .0) (y .2) (w .2))
+
 -- ---- one field
 
 pub whole-is : (bs : List ℕ) (a : ℕ) → T (whole bs a) ↔ ((a + 3 ≤ length bs) × (fieldEnd bs a ≤ length bs))

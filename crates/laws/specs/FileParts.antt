@@ -1,6 +1,6 @@
 -- Reading a job file that is put together of parts: the fields of the first part, and then those of the rest. Assumes nothing.
-use mathlib.Core.Path.{_≡_, refl, sym, ap, subst, fun-ext, _∙_}
-use mathlib.Core.Bool.{Bool, true, false, _&&_}
+use mathlib.Core.Path.{_≡_, refl, sym, ap, fun-ext, _∙_}
+use mathlib.Core.Bool.{_&&_}
 use mathlib.Core.List.{List, [], _++_}
 use Prim.Native.Nat.{ℕ, zero, suc, _+_, _-_, _≤_, _<_}
 use native.Mathlib.Omega.{arith}
@@ -12,7 +12,8 @@ use Rattle.rules.specs.Basics.{choose, at}
 use Rattle.rules.specs.Fields.{Answer, refused, got, ask, after, part, field, fieldEnd, value, whole, overFields}
 use Rattle.rules.specs.JobFile.{JobFile, knownTag, inPlace, lengthOk, contentOk, addField, readField, noFields, complete, readFile}
 use Rattle.laws.specs.Tests.{T-leb, T-ltb, bool-ext}
-use Rattle.laws.specs.Fields.{after-got, ask-yes, whole-is, overFields-step, overFields-end, overFields-enough}
+use Rattle.laws.specs.Fields.{ask-yes, GotBeside, got-beside, ask-beside, choose-beside, after-beside}
+use Rattle.laws.specs.Fields.{whole-is, overFields-step, overFields-end, overFields-enough}
 use Rattle.laws.specs.Table.{field-at}
 
 -- ---- what is read from an offset on
@@ -48,23 +49,16 @@ module _ {A : Type 0} (step : A → ℕ → Answer A) where
   overFields-bounds j k bs a s g h = sym (overFields-more k j bs a s g) ∙ ap (λ (n : ℕ). overFields step n bs a s) (omega arith) ∙ overFields-more j k bs a s h
 
   -- two readings of the same fields, the first not refused: where no field refuses the second and each keeps R between them, so do all fields
-  pub overFields-beside : (R : A → A → Type 0) → ((s t u : A) (a : ℕ) → R s t → step s a ≡ got u → (v : A) × (step t a ≡ got v) × R u v)
-      → (k : ℕ) (bs : List ℕ) (a : ℕ) (s t u : A) → R s t → overFields step k bs a s ≡ got u → (v : A) × (overFields step k bs a t ≡ got v) × R u v
+  pub overFields-beside : (R : A → A → Type 0) → ((s t u : A) (a : ℕ) → R s t → step s a ≡ got u → GotBeside R u (step t a))
+      → (k : ℕ) (bs : List ℕ) (a : ℕ) (s t u : A) → R s t → overFields step k bs a s ≡ got u → GotBeside R u (overFields step k bs a t)
   unfolding overFields choose
-  overFields-beside R keeps zero bs a s t u r e = let q : s ≡ u = cc in (t, refl, subst (λ (x : A). R x t) q r)
-  overFields-beside R keeps (suc k) bs a s t u r e = go (ltb a (length bs)) e (λ x y. overFields-beside R keeps k bs (fieldEnd bs a) x y u)
+  overFields-beside R keeps zero bs a s t u r = got-beside R s t r
+  overFields-beside R keeps (suc k) bs a s t u r =
+      choose-beside R (ltb a (length bs)) (λ _. after-beside R (step s a) (step t a) rest rest (λ x. keeps s t x a r)
+      (λ x y. overFields-beside R keeps k bs (fieldEnd bs a) x y u)) (got-beside R s t r)
     where
       rest : A → Answer A
       rest = overFields step k bs (fieldEnd bs a)
-
-      go : (b : Bool) → choose b (after (step s a) rest) (got s) ≡ got u → ((x y : A) → R x y → rest x ≡ got u → (v : A) × (rest y ≡ got v) × R u v)
-          → (v : A) × (choose b (after (step t a) rest) (got t) ≡ got v) × R u v
-      go true e next =
-          let w = after-got (step s a) rest u e in
-          let y = keeps s t (w .0) a r (w .1) in
-          let z = next (w .0) (y .0) (y .2) (w .2) in
-          (z .0, unfold after in rw (y .1) (z .1), z .2)
-      go false e next = let q : s ≡ u = cc in (t, refl, subst (λ (x : A). R x t) q r)
 
 -- the field at a, and what follows it
 pub readFrom-step : (bs : List ℕ) (a : ℕ) (f : JobFile) → a < length bs → readFrom bs a f ≡ after (readField bs f a) (readFrom bs (fieldEnd bs a))
@@ -181,6 +175,12 @@ module _ (xs zs : List ℕ) where
 -- the questions of a whole field, from the fourth on, and what it adds
 abbrev pub askField : JobFile → ℕ → List ℕ → Answer JobFile
 askField f tag v = ask (knownTag tag) 4 (ask (inPlace (f .fields) tag) 5 (ask (lengthOk tag (length v) && contentOk tag v) 6 (addField f tag v)))
+
+-- two readings ask them: where question 5 and what the field adds keep the second beside the first, all do
+pub askField-beside : (R : JobFile → JobFile → Type 0) {u : JobFile} (s t : JobFile) (tag : ℕ) (v : List ℕ)
+    → (T (inPlace (s .fields) tag) → T (inPlace (t .fields) tag)) → (addField s tag v ≡ got u → GotBeside R u (addField t tag v))
+    → askField s tag v ≡ got u → GotBeside R u (askField t tag v)
+askField-beside R s t tag v place add = ask-beside R _ _ 4 (λ h. h) (ask-beside R _ _ 5 place (ask-beside R _ _ 6 (λ h. h) add))
 
 -- of a field in front these are asked, and then the fields behind it are read
 pub readFrom-field : (tag : ℕ) (v zs : List ℕ) → length v < 65536 → (f : JobFile) → readFrom (field tag v ++ zs) 0 f ≡ after (askField f tag v) (readFrom zs 0)

@@ -135,7 +135,8 @@ module _ {n : ℕ} {needs : List Need} (needs-in : NeedsIn n needs) (free : ¬ (
   rest-others g k _ _ w (more a b c m r) =
       more a b c (other g k a b m (λ h. free (g, rw (h .0) at w))) (rest-others g k b c (snoc needs g a b w m) r)
 
-  far-implied : (g k : ℕ) → Gives needs g k → Far needs g k → Implied needs g k
+  -- so a need follows from others exactly where there is one
+  pub far-implied : (g k : ℕ) → Gives needs g k → Far needs g k → Implied needs g k
   far-implied g k m (b, a, r) = record {
     need = m;
     next = b;
@@ -143,7 +144,7 @@ module _ {n : ℕ} {needs : List Need} (needs-in : NeedsIn n needs) (free : ¬ (
     rest = rest-others g k b k (one g b a) r;
   }
 
-  implied-far : (g k : ℕ) → Implied needs g k → Far needs g k
+  pub implied-far : (g k : ℕ) → Implied needs g k → Far needs g k
   implied-far g k i = (i .next, others-in g k g (i .next) (i .first), chain-within (others (g, k) needs) needs (others-in g k) (i .next) k (i .rest))
 
   -- a need passes the test exactly where it follows from others

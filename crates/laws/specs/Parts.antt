@@ -12,8 +12,8 @@ use Rattle.rules.specs.Program.{Kept}
 use Rattle.rules.specs.Windows.{Formula1, release, swap, tail, width}
 use Rattle.laws.specs.Counting.{pigeonhole-by, passing, passing-in, passing-distinct, most-ge, most-le}
 use Rattle.laws.specs.Circles.{start-in}
-use Rattle.laws.specs.Releases.{Case, nobody, single, double, release-case, case-value, release-formula, release-only, value1-is}
-use Rattle.laws.specs.Deadlines.{swap-gives, swap-in, reversed-chain}
+use Rattle.laws.specs.Releases.{Case, nobody, single, double, case-value, release-at, release-only}
+use Rattle.laws.specs.Deadlines.{swap-gives, swap-free, swap-in}
 use Rattle.laws.specs.Width.{window, window-is, width-window}
 
 -- job i of the k jobs with the needs es is job f i of the n jobs with the needs ds, and has the same givers and takers there
@@ -166,17 +166,12 @@ part-release {k} {n} {es} {ds} {f} p free i l = release-only k es (p .part-in) (
     dates j = release n ds (f j)
 
     formula : (j : ℕ) → j < k → Formula1 es dates j
-    formula j h =
-        let e = value1-is ds (release n ds) (f j) (dates j) .0 (release-formula n ds (p .whole-in) free (f j) (p .inside j h)) in
-        case-value es dates j (dates j) (case-part p (release n ds) j (dates j) h (rw (← e) at (release-case ds (release n ds) (f j))))
+    formula j h = case-value es dates j (dates j) (case-part p (release n ds) j (dates j) h (release-at n ds (p .whole-in) free (f j) (p .inside j h)))
 
 module _ {k n : ℕ} {es ds : List Need} {f : ℕ → ℕ} (p : Part k n es ds f) (free : ¬ (Circle ds)) where
   -- and the tail
   pub part-tail : (i : ℕ) → i < k → tail n ds (f i) ≡ tail k es i
-  part-tail i l = part-release (part-swap p) swapped i l
-    where
-      swapped : ¬ (Circle (map swap ds))
-      swapped (a, c) = free (a, reversed-chain (map swap ds) ds (λ g k m. swap-gives ds g k .0 m) a a c)
+  part-tail i l = part-release (part-swap p) (swap-free free) i l
 
   -- so the part is no wider than the whole
   pub part-width : (L : ℕ) → width k es L ≤ width n ds L

@@ -26,6 +26,14 @@ pub data Case (needs : List Need) (r : ℕ → ℕ) (i v : ℕ) : Type 0 where
   single : (j : ℕ) → Gives needs j i → ((g : ℕ) → Gives needs g i → g ≢ j → r g < r j) → v ≡ r j + 1 → Case needs r i v
   double : (j k : ℕ) → Gives needs j i → Gives needs k i → j ≢ k → r j ≡ r k → ((g : ℕ) → Gives needs g i → r g ≤ r j) → v ≡ r j + 2 → Case needs r i v
 
+-- where all other givers of i have an earlier date r than j, none has a later one
+pub none-later : (needs : List Need) (r : ℕ → ℕ) (i j : ℕ) → ((g : ℕ) → Gives needs g i → g ≢ j → r g < r j) → (g : ℕ) → Gives needs g i → r g ≤ r j
+none-later needs r i j h g m = go (ℕ-discrete g j)
+  where
+    go : Dec (g ≡ j) → r g ≤ r j
+    go (yes e) = rw e (omega arith)
+    go (no e) = omega (arith, h g m e)
+
 module _ (r : ℕ → ℕ) (i : ℕ) where
   latest-ge : (ds : List Need) (g : ℕ) → Gives ds g i → suc (r g) ≤ latest r ds i
   unfolding latest choose
@@ -196,6 +204,12 @@ module _ (n : ℕ) (needs : List Need) (needs-in : NeedsIn n needs) where
   pub release-formula : ¬ (Circle needs) → (i : ℕ) → i < n → Formula1 needs (release n needs) i
   release-formula free i h = value1-is needs (release n needs) i (release n needs i) .1 (stable n i h (free-marked n needs needs-in free i h) ∙ release-step n n needs i h)
 
+  -- so each release is the value of a case
+  pub release-at : ¬ (Circle needs) → (i : ℕ) → i < n → Case needs (release n needs) i (release n needs i)
+  release-at free i h =
+      let e = value1-is needs (release n needs) i (release n needs i) .0 (release-formula free i h) in
+      rw (← e) at (release-case needs (release n needs) i)
+
   only : (r : ℕ → ℕ) → ((i : ℕ) → i < n → Formula1 needs r i) → (f i : ℕ) → i < n → T (marked (rounds n needs f) i) → r i ≡ at (releases n needs f) i
   only r h zero i l t = absurd (none-marked n needs i t)
   only r h (suc f) i l t =
@@ -213,24 +227,14 @@ module _ {n : ℕ} {needs : List Need} (needs-in : NeedsIn n needs) (free : ¬ (
   abbrev rel : ℕ → ℕ
   rel = release n needs
 
-  -- the case of formula (1) that holds at a job, with its release
-  pub release-is : (i : ℕ) → i < n → Case needs rel i (rel i)
-  release-is i h =
-      let e = value1-is needs rel i (rel i) .0 (release-formula n needs needs-in free i h) in
-      rw (← e) at (release-case needs rel i)
-
   case-later : (g k v : ℕ) → Gives needs g k → Case needs rel k v → rel g + 1 ≤ v
   case-later g k v a (nobody h e) = absurd (h g a)
-  case-later g k v a (single j b l e) = go (ℕ-discrete g j)
-    where
-      go : Dec (g ≡ j) → rel g + 1 ≤ v
-      go (yes p) = rw p (omega arith)
-      go (no p) = omega (arith, l g a p)
+  case-later g k v a (single j b l e) = omega (arith, none-later needs rel k j l g a)
   case-later g k v a (double i j b c d p l e) = omega (arith, l g a)
 
   -- the release of a taker is later than its giver's
   pub release-later : (g k : ℕ) → Gives needs g k → rel g + 1 ≤ rel k
-  release-later g k a = case-later g k (rel k) a (release-is k (needs-in g k a .1))
+  release-later g k a = case-later g k (rel k) a (release-at n needs needs-in free k (needs-in g k a .1))
 
   -- job j has a release below v
   earlier : ℕ → ℕ → Bool
@@ -279,7 +283,7 @@ module _ {n : ℕ} {needs : List Need} (needs-in : NeedsIn n needs) (free : ¬ (
   -- as many jobs as the release of i says have an earlier one; b bounds the release
   as-many : (b i : ℕ) → rel i ≤ b → i < n → rel i ≤ count (earlier (rel i)) n
   as-many zero i l h = omega arith
-  as-many (suc b) i l h = case-many b i (rel i) l (release-is i h) (as-many b)
+  as-many (suc b) i l h = case-many b i (rel i) l (release-at n needs needs-in free i h) (as-many b)
 
   -- so no release is as large as the number of jobs
   pub release-below : (i : ℕ) → i < n → rel i < n

@@ -1,7 +1,6 @@
 -- The field of the most boards: where it is left out or says eight, no cap is asked for; a readable file that says eight gets the same from planner and check
 -- as without the field. Assumes nothing.
 use mathlib.Core.Path.{_≡_, refl, sym, ap, ap₂, _∙_}
-use mathlib.Core.Logic.{_↔_}
 use mathlib.Core.Bool.{Bool, true, false, _&&_}
 use mathlib.Core.List.{List, [], _∷_, _++_}
 use mathlib.Core.Option.{Option, none, some}
@@ -22,10 +21,10 @@ use Rattle.rules.specs.Boards.{runsb}
 use Rattle.rules.specs.Table.{Table}
 use Rattle.rules.specs.Answers.{tableOf, tabled, planTable, plan, check}
 use Rattle.laws.specs.Tests.{T-leb, T-eqb, tests}
-use Rattle.laws.specs.Fields.{ask-got, after-got}
-use Rattle.laws.specs.JobFile.{Readable, late-field}
+use Rattle.laws.specs.Fields.{ask-got, after-got, GotBeside, got-beside, ask-beside, choose-beside}
+use Rattle.laws.specs.JobFile.{Readable, place-late, place-same}
 use Rattle.laws.specs.Planned.{wide-enough}
-use Rattle.laws.specs.FileParts.{Fields, readFrom, askField, overFields-beside, readFrom-field, readFile-parts}
+use Rattle.laws.specs.FileParts.{Fields, readFrom, askField, overFields-beside, askField-beside, readFrom-field, readFile-parts}
 
 -- ---- eight boards ask nothing
 
@@ -50,14 +49,6 @@ eight-asks-nothing f ok e =
 unfoldable pub withoutSockets : JobFile → JobFile
 withoutSockets f = record { fields = f .fields - 1; limit = f .limit; sockets = 0; jobs = f .jobs; needs = f .needs }
 
--- from the third field on, question 5 asks for a tag that is neither header nor limit
-place-late : (fields tag : ℕ) → 2 ≤ fields → T (inPlace fields tag) ↔ (3 ≤ tag)
-unfolding inPlace
-place-late fields tag h = (
-  λ t. (simp tests at t) .1 (λ e. omega arith) .1 (λ e. omega arith),
-  λ k. simp tests (λ e. absurd (omega arith), λ _. (λ e. absurd (omega arith), λ _. k)),
-)
-
 -- two readings, with the field of c boards and without it
 module _ (c : ℕ) where
   -- from that field on: the first has read what the second has, and the field
@@ -74,58 +65,42 @@ module _ (c : ℕ) where
       let q5 = ask-got (inPlace (f .fields) 9) 5 _ g (q4 .1) in
       let q6 = ask-got (lengthOk 9 1 && contentOk 9 (c ∷ [])) 6 _ g (q5 .1) in
       let q21 = ask-got (eqb (f .sockets) 0) 21 (got (withSockets f c)) g (q6 .1) in
-      let place = simp tests at (q5 .0) in
       let s : withSockets f c ≡ g = cc (q21 .1) in
-      let late = late-field (f .fields) 9 (place .0) (λ z. place .1 z .0) (omega arith) in
+      let late = place-late (f .fields) 9 (q5 .0) (omega arith) in
       ((simp tests at (q6 .0)) .1 .0, record { one-more = sym s; late = late; unsaid = T-eqb (f .sockets) 0 .0 (q21 .0) })
 
-  -- r, an answer of the second, is no refusal, and what it gives stands beside u
-  abbrev ReadsBeside : JobFile → Answer JobFile → Type 0
-  ReadsBeside u r = (g : JobFile) × (r ≡ got g) × Beside u g
-
-  -- a question, a choice, and a file read, in both
-  ask-beside : {u : JobFile} (a b : Bool) (q : ℕ) {r s : Answer JobFile} → (T a → T b) → (r ≡ got u → ReadsBeside u s)
-      → ask a q r ≡ got u → ReadsBeside u (ask b q s)
-  unfolding ask
-  ask-beside {u} a true q {r} t h e = h (ask-got a q r u e .1)
-  ask-beside {u} a false q {r} t h e = absurd (t (ask-got a q r u e .0))
-
-  choose-beside : {u : JobFile} (b : Bool) {r r′ s s′ : Answer JobFile} → (r ≡ got u → ReadsBeside u s) → (r′ ≡ got u → ReadsBeside u s′)
-      → choose b r r′ ≡ got u → ReadsBeside u (choose b s s′)
-  unfolding choose
-  choose-beside true h h′ e = h e
-  choose-beside false h h′ e = h′ e
-
-  got-beside : {u : JobFile} (g : JobFile) → 2 ≤ g .fields → g .sockets ≡ 0 → got (withSockets g c) ≡ got u → ReadsBeside u (got g)
-  got-beside {u} g h z e = let s : withSockets g c ≡ u = cc in (g, refl, record { one-more = sym s; late = h; unsaid = z })
+  -- a file read by both
+  file-beside : {u : JobFile} (g : JobFile) → 2 ≤ g .fields → g .sockets ≡ 0 → got (withSockets g c) ≡ got u → GotBeside Beside u (got g)
+  file-beside g h z = got-beside Beside (withSockets g c) g record { one-more = refl; late = h; unsaid = z }
 
   -- what a field adds to both; the first refuses a second field of this tag
   add-beside : 1 ≤ c → (g u : JobFile) (tag : ℕ) (v : List ℕ) → 2 ≤ g .fields → g .sockets ≡ 0
-      → addField (withSockets g c) tag v ≡ got u → ReadsBeside u (addField g tag v)
+      → addField (withSockets g c) tag v ≡ got u → GotBeside Beside u (addField g tag v)
   unfolding addField addNeed addSockets counted withLimit withSockets withJob withNeed
   add-beside said g u tag v h z =
-      choose-beside (eqb tag 2) (got-beside (withLimit g (at v 0)) (omega arith) z)
-      (choose-beside (eqb tag 3) (ask-beside _ _ 7 (λ t. t) (got-beside (withJob g (jobOf v)) (omega arith) z))
-      (choose-beside (eqb tag 4) (ask-beside _ _ 8 (λ t. t) (ask-beside _ _ 9 (λ t. t) (got-beside (withNeed g (at v 0 - 1, at v 1 - 1)) (omega arith) z)))
-      (choose-beside (eqb tag 9) (λ e. absurd (omega (arith, T-eqb c 0 .0 (ask-got (eqb c 0) 21 _ u e .0)))) (got-beside (counted g) (omega arith) z))))
+      choose-beside Beside (eqb tag 2) (λ _. file-beside (withLimit g (at v 0)) (omega arith) z)
+      (choose-beside Beside (eqb tag 3) (λ _. ask-beside Beside _ _ 7 (λ t. t) (file-beside (withJob g (jobOf v)) (omega arith) z))
+      (choose-beside Beside (eqb tag 4) (λ _. ask-beside Beside _ _ 8 (λ t. t) (ask-beside Beside _ _ 9 (λ t. t)
+      (file-beside (withNeed g (at v 0 - 1, at v 1 - 1)) (omega arith) z)))
+      (choose-beside Beside (eqb tag 9) (λ _ e. absurd (omega (arith, T-eqb c 0 .0 (ask-got (eqb c 0) 21 _ u e .0))))
+      (file-beside (counted g) (omega arith) z))))
 
   -- the field at offset a is read by both
-  field-beside : 1 ≤ c → (bs : List ℕ) (f g u : JobFile) (a : ℕ) → Beside f g → readField bs f a ≡ got u → ReadsBeside u (readField bs g a)
+  field-beside : 1 ≤ c → (bs : List ℕ) (f g u : JobFile) (a : ℕ) → Beside f g → readField bs f a ≡ got u → GotBeside Beside u (readField bs g a)
   unfolding readField withSockets
   field-beside said bs f g u a b e =
-      let late = place-late (g .fields) (at bs a) (b .late) in
-      let later = place-late (suc (g .fields)) (at bs a) (omega (arith, b .late)) in
-      ask-beside _ _ 3 (λ t. t) (ask-beside _ _ 4 (λ t. t) (ask-beside _ _ 5 (λ t. late .1 (later .0 t)) (ask-beside _ _ 6 (λ t. t)
-      (add-beside said g u (at bs a) (value bs a) (b .late) (b .unsaid))))) (ap (λ (x : JobFile). readField bs x a) (sym (b .one-more)) ∙ e)
+      ask-beside Beside _ _ 3 (λ t. t) (askField-beside Beside (withSockets g c) g (at bs a) (value bs a)
+      (place-same (suc (g .fields)) (g .fields) (at bs a) (omega (arith, b .late))) (add-beside said g u (at bs a) (value bs a) (b .late) (b .unsaid)))
+      (ap (λ (x : JobFile). readField bs x a) (sym (b .one-more)) ∙ e)
 
   -- question 10 is answered by both
-  complete-beside : (f g u : JobFile) → Beside f g → complete f ≡ got u → ReadsBeside u (complete g)
+  complete-beside : (f g u : JobFile) → Beside f g → complete f ≡ got u → GotBeside Beside u (complete g)
   unfolding complete withSockets
   complete-beside f g u b e =
-      ask-beside _ _ 10 (λ t. simp tests (b .late, (simp tests at t) .1)) (got-beside g (b .late) (b .unsaid)) (ap complete (sym (b .one-more)) ∙ e)
+      ask-beside Beside _ _ 10 (λ t. simp tests (b .late, (simp tests at t) .1)) (file-beside g (b .late) (b .unsaid)) (ap complete (sym (b .one-more)) ∙ e)
 
   -- so the first says c, and the second all else
-  says-beside : (f : JobFile) (r : Answer JobFile) → ReadsBeside f r → (f .sockets ≡ c) × (r ≡ got (withoutSockets f))
+  says-beside : (f : JobFile) (r : Answer JobFile) → GotBeside Beside f r → (f .sockets ≡ c) × (r ≡ got (withoutSockets f))
   unfolding withoutSockets withSockets
   says-beside f r (g, e, b) = (
     ap (λ (x : JobFile). x .sockets) (b .one-more),

@@ -42,11 +42,12 @@ holdsb-is r d s i = (
 most-mono : (p q : ℕ → ℕ → Bool) (n C L : ℕ) → C ≤ L → ((s i : ℕ) → i < n → T (p s i) → T (q s i)) → most (λ s. count (p s) n) C ≤ most (λ s. count (q s) n) L
 most-mono p q n C L l f = most-le (λ s. count (p s) n) C (most (λ s. count (q s) n) L) (λ s h. omega (arith, count-le (p s) (q s) n (f s), most-ge (λ s. count (q s) n) L s (omega arith)))
 
-pub most-same : (p q : ℕ → ℕ → Bool) (n L : ℕ) → ((s i : ℕ) → i < n → T (p s i) ↔ T (q s i)) → most (λ s. count (p s) n) L ≡ most (λ s. count (q s) n) L
+-- so tests that say the same give the same fullest slot
+most-same : (p q : ℕ → ℕ → Bool) (n L : ℕ) → ((s i : ℕ) → i < n → T (p s i) ↔ T (q s i)) → most (λ s. count (p s) n) L ≡ most (λ s. count (q s) n) L
 most-same p q n L f = omega (arith, most-mono p q n L L (omega arith) (λ s i h. f s i h .0), most-mono q p n L L (omega arith) (λ s i h. f s i h .1))
 
 -- dates that are the release and the limit less the tail, below n
-windows-width : (n : ℕ) (needs : List Need) (L : ℕ) (r : ℕ → ℕ) (d : ℕ → ℤ)
+pub windows-width : (n : ℕ) (needs : List Need) (L : ℕ) (r : ℕ → ℕ) (d : ℕ → ℤ)
     → ((i : ℕ) → i < n → r i ≡ release n needs i) → ((i : ℕ) → i < n → d i ≡ pos L -ℤ pos (tail n needs i))
     → widthOf n r d L ≡ most (λ s. count (window (release n needs) (tail n needs) L s) n) L
 unfolding widthOf

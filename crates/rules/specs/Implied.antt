@@ -8,7 +8,7 @@ use Rattle.rules.specs.Sizes.{pairsSize}
 use Rattle.rules.specs.Basics.{choose, at, any, filter, range, tabulate}
 use Rattle.rules.specs.Fields.{Answer, refused, got, ask, after, value, fieldsBut}
 use Rattle.rules.specs.Needs.{Need, Gives, givesb, Chain, marked, circleFree}
-use Rattle.rules.specs.JobFile.{JobFile, readFile}
+use Rattle.rules.specs.JobFile.{readFile}
 
 -- ---- which needs follow
 
@@ -87,14 +87,14 @@ listImplied file list =
 
 -- ---- "Striking all of them from a file"
 
--- the needs that are left
-unfoldable pub struck : ℕ → List Need → List Need
-struck n needs = filter (λ d. not (impliedb n needs d)) needs
+-- the needs but those of ds
+unfoldable pub struck : List Need → List Need → List Need
+struck ds needs = filter (λ d. not (givesb ds (d .0) (d .1))) needs
 
--- the field at offset a is a need that follows, by the needs of all n jobs
-unfoldable pub followsAt : ℕ → List Need → List ℕ → ℕ → Bool
-followsAt n needs bs a = let v = value bs a in eqb (at bs a) 4 && impliedb n needs (at v 0 - 1, at v 1 - 1)
+-- the field at offset a is one of the needs ds
+unfoldable pub needAt : List Need → List ℕ → ℕ → Bool
+needAt ds bs a = let v = value bs a in eqb (at bs a) 4 && givesb ds (at v 0 - 1) (at v 1 - 1)
 
--- the bytes of a file that says f, without the fields of these needs
-unfoldable pub strike : JobFile → List ℕ → List ℕ
-strike f bs = fieldsBut (followsAt (length (f .jobs)) (f .needs) bs) (length bs) bs 0
+-- the bytes of a file without the fields of the needs ds
+unfoldable pub strike : List Need → List ℕ → List ℕ
+strike ds bs = fieldsBut (needAt ds bs) (length bs) bs 0

@@ -17,7 +17,10 @@ abbrev μ-loop : tie.MeasureT-loop
 
 -- a turn takes the lowest taker out
 turned : (c : tie.After-lowest Inv-loop μ-loop) → Turn (c .before .before .before .loop .rest) (c .lowest .result)
-turned c = turn (c .before .before .before .loop .rest) (c .before .before .is-empty .result) (c .lowest .result) (c .before .before .before .loop .inv .0) (c .before .before .is-empty .ensures) (c .before .if1 .taken) (c .lowest .ensures)
+turned c =
+    let l = c .before .before .before .loop in
+    let e = c .before .before .is-empty in
+    turn (l .rest) (e .result) (c .lowest .result) (l .inv .0) (e .ensures) (c .before .if1 .taken) (c .lowest .ensures)
 
 loop-holds : tie.Need-loop-holds Inv-loop μ-loop
 loop-holds c = (search needs, refl)
@@ -50,9 +53,10 @@ loop-again : tie.Need-loop-again Inv-loop μ-loop
 unfolding gather
 loop-again c =
     let l = c .before .before .before .before .before .before .loop in
+    let reach = c .before .before .before .before .before .before .before .args .reach .now in
     let u = turned (c .before .before .before) in (
       search needs,
-      rw (c .rest .ensures, u .rest-is, c .before .union .ensures) (ap (λ ps. gather (c .before .before .before .before .before .before .before .args .reach .now) ps (l .all)) (sym (u .first)) ∙ l .inv .1),
+      rw (c .rest .ensures, u .rest-is, c .before .union .ensures) (ap (λ ps. gather reach ps (l .all)) (sym (u .first)) ∙ l .inv .1),
     )
 
 returns : tie.Need-returns Inv-loop μ-loop

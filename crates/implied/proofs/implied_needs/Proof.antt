@@ -1,5 +1,6 @@
 -- `implied::implied_needs` meets its contract. Assumes nothing.
-use mathlib.Core.Path.{_≡_, refl, sym, _∙_}
+use mathlib.Core.Path.{_≡_, refl, sym}
+use mathlib.Core.List.{List}
 use mathlib.Core.Bool.{true}
 use Prim.Native.Nat.{ℕ}
 use native.Mathlib.Omega.{arith}
@@ -13,12 +14,22 @@ use Rattle.implied.specs.Answer.{no-room, file-refused, FileRead, jobs-f
 use Rattle.implied.proofs.implied_needs.Statement.{statement}
 use Rattle.implied.proofs.implied_needs.Tie as tie
 
--- the tables that the reader leaves, and the file is read
-long : (c : tie.After-read-file) → length (c .read-file .last .1 .1 .0) ≡ 260
+-- the tables that the reader leaves
+abbrev tables : (c : tie.After-read-file) → List ℕ
+tables c = c .read-file .last .1 .1 .0
+
+long : (c : tie.After-read-file) → length (tables c) ≡ 260
 long c = c .read-file .ensures .1
 
-is-read : (c : tie.Else2) → FileRead (c .before .before .before .before .before .before .before .args .file .now) (c .before .before .before .before .before .before .before .args .list .now) (c .before .read-file .result) (c .before .read-file .last .1 .0)
-    (giversIn (c .before .read-file .last .1 .1 .0)) (takersIn (c .before .read-file .last .1 .1 .0))
+givers-long : (c : tie.After-read-file) → length (giversIn (tables c)) ≡ 64
+givers-long c = length-part 0 64 (tables c) (omega (arith, long c))
+
+takers-long : (c : tie.After-read-file) → length (takersIn (tables c)) ≡ 64
+takers-long c = length-part 64 64 (tables c) (omega (arith, long c))
+
+-- the file is read
+is-read : (c : tie.Else2) → let a = c .before .before .before .before .before .before .before .args in let r = c .before .read-file in
+    FileRead (a .file .now) (a .list .now) (r .result) (r .last .1 .0) (giversIn (tables (c .before))) (takersIn (tables (c .before)))
 is-read c = record {
   room = omega arith;
   bytes = λ i. omega (arith, c .before .before .before .before .before .before .shared-slice-known .given i);
@@ -26,19 +37,13 @@ is-read c = record {
   ok = c .if2 .left;
 }
 
-givers-long : (c : tie.After-read-file) → length (giversIn (c .read-file .last .1 .1 .0)) ≡ 64
-givers-long c = length-part 0 64 (c .read-file .last .1 .1 .0) (omega (arith, long c))
-
-takers-long : (c : tie.After-read-file) → length (takersIn (c .read-file .last .1 .1 .0)) ≡ 64
-takers-long c = length-part 64 64 (c .read-file .last .1 .1 .0) (omega (arith, long c))
-
--- without a circle
+-- it has no circle
 is-free : (c : tie.Else3) → c .before .before .levels .result .ok ≡ true
 is-free c = not-false _ (c .if3 .left)
 
 -- what each job reaches, by the levels that the circle test gave
-reach-is : (c : tie.After-reached) → c .reached .result
-    ≡ reachEach (takersIn (c .before .before .before .before .before .before .before .before .before .before .before .before .read-file .last .1 .1 .0)) (fromTop (table (levelSet (c .before .before .before .before .before .before .before .before .before .levels .result .level) (c .before .before .before .before .before .before .before .before .before .before .before .before .read-file .result .jobs))) 66) (replicate 64 0)
+reach-is : (c : tie.After-reached) → let l = c .before .before .before .before .before .before .before .before .before .levels .result .level in let n = c .before .before .before .before .before .before .before .before .before .before .before .before .read-file .result .jobs in
+    c .reached .result ≡ reachEach (takersIn (tables (c .before .before .before .before .before .before .before .before .before .before .before .before))) (fromTop (table (levelSet l n)) 66) (replicate 64 0)
 reach-is c = rw (c .before .before .before .before .by-level .ensures) at (c .reached .ensures)
 
 returns : tie.Need-returns
@@ -48,7 +53,9 @@ read-file-requires : tie.Need-read-file-requires
 read-file-requires c κs = (length-replicate {A = ℕ} 64 0, refl)
 
 returns-2 : tie.Need-returns-2
-returns-2 c = file-refused (c .before .before .before .before .before .before .before .args .file .now) (c .before .before .before .before .before .before .before .args .list .now) (omega arith) _ _ _ _ (c .before .read-file .ensures .0) (c .if2 .taken)
+returns-2 c =
+    let a = c .before .before .before .before .before .before .before .args in
+    file-refused (a .file .now) (a .list .now) (omega arith) _ _ _ _ (c .before .read-file .ensures .0) (c .if2 .taken)
 
 array-share-prefix-tables : tie.Need-array-share-prefix-tables
 array-share-prefix-tables c = omega (arith, long (c .before))
@@ -60,7 +67,9 @@ levels-requires : tie.Need-levels-requires
 levels-requires c κs = (jobs-few (is-read (c .before)), omega (arith, givers-long (c .before .before)))
 
 returns-3 : tie.Need-returns-3
-returns-3 c = circle (is-read (c .before .before .before .before)) (c .before .before .levels .result) (c .before .before .levels .ensures) (not-true _ (c .if3 .taken))
+returns-3 c =
+    let levels = c .before .before .levels in
+    circle (is-read (c .before .before .before .before)) (levels .result) (levels .ensures) (not-true _ (c .if3 .taken))
 
 by-level-requires : tie.Need-by-level-requires
 by-level-requires c κs = jobs-few (is-read (c .before .before .before .before .before .before))
@@ -89,15 +98,22 @@ part-put-rows-end c = omega (arith, long (c .before .before .before .before .bef
 put-rows-requires : tie.Need-put-rows-requires
 put-rows-requires c κs =
     let r = is-read (c .before .before .before .before .before .before .before .before .before .before .before .before .before .before .before) in
-    (jobs-few r, omega (arith, takers-long (c .before .before .before .before .before .before .before .before .before .before .before .before .before .before .before .before)), rw (reach-is (c .before .before .before .before)) (rows-fit r (c .before .before .before .before .before .before .before .before .before .before .before .before .before .levels .result) (c .before .before .before .before .before .before .before .before .before .before .before .before .before .levels .ensures) (is-free (c .before .before .before .before .before .before .before .before .before .before .before))))
+    let levels = c .before .before .before .before .before .before .before .before .before .before .before .before .before .levels in
+    let e = reach-is (c .before .before .before .before) in
+    let free = is-free (c .before .before .before .before .before .before .before .before .before .before .before) in
+    (jobs-few r, omega (arith, takers-long (c .before .before .before .before .before .before .before .before .before .before .before .before .before .before .before .before)), rw e (rows-fit r (levels .result) (levels .ensures) free))
 
 same-length : tie.Need-same-length
 same-length c = search needs
 
 returns-4 : tie.Need-returns-4
 returns-4 c =
-    rw (c .before .before .put-rows .ensures .0, c .before .before .put-rows .ensures .1, reach-is (c .before .before .before .before .before .before .before))
-    (all-listed (is-read (c .before .before .before .before .before .before .before .before .before .before .before .before .before .before .before .before .before .before)) (c .before .before .before .before .before .before .before .before .before .before .before .before .before .before .before .before .levels .result) (c .before .before .before .before .before .before .before .before .before .before .before .before .before .before .before .before .levels .ensures) (is-free (c .before .before .before .before .before .before .before .before .before .before .before .before .before .before)))
+    let p = c .before .before .put-rows in
+    let e = reach-is (c .before .before .before .before .before .before .before) in
+    let r = is-read (c .before .before .before .before .before .before .before .before .before .before .before .before .before .before .before .before .before .before) in
+    let levels = c .before .before .before .before .before .before .before .before .before .before .before .before .before .before .before .before .levels in
+    let free = is-free (c .before .before .before .before .before .before .before .before .before .before .before .before .before .before) in
+    rw (p .ensures .0, p .ensures .1, e) (all-listed r (levels .result) (levels .ensures) free)
 
 pub implied-needs-spec : {M : Type 1} → statement M
 implied-needs-spec =

@@ -1,6 +1,6 @@
 -- `implied::put_row` meets its contract. The pairs of the takers from k up are still to come, from entry `next` on. Assumes nothing.
 use mathlib.Core.Path.{_≡_, sym, _∙_}
-use mathlib.Core.Bool.{true, false}
+use mathlib.Core.Bool.{true}
 use Prim.Native.Nat.{_+_, _-_, _≤_}
 use native.Mathlib.Omega.{arith}
 use lib.ListN.{length, length-set}
@@ -57,7 +57,9 @@ mul-list-2 : tie.Need-mul-list-2 Inv-loop μ-loop
 mul-list-2 c = let r = room c in omega arith
 
 slice-write-list-2 : tie.Need-slice-write-list-2 Inv-loop μ-loop
-slice-write-list-2 c = let l = c .before .before .before .loop in omega (arith, room c, length-set (l .list) (l .next) (c .before .before .before .before .before .args .giver + 1))
+slice-write-list-2 c =
+    let l = c .before .before .before .loop in
+    omega (arith, room c, length-set (l .list) (l .next) (c .before .before .before .before .before .args .giver + 1))
 
 add-next : tie.Need-add-next Inv-loop μ-loop
 add-next c = let r = room c in omega arith

@@ -1,5 +1,4 @@
 -- `implied::put_rows` meets its contract. The rows of the givers from `giver` up are still to come, from entry `count` on. Assumes nothing.
-use mathlib.Core.Path.{_≡_}
 use Prim.Native.Nat.{_-_}
 use native.Mathlib.Omega.{arith}
 use Rattle.implied.specs.ListingLaws.{RowsSoFar, rows-start, rows-room, rows-put, rows-size, rows-end}
@@ -28,7 +27,10 @@ implied-takers-requires : tie.Need-implied-takers-requires Inv-loop μ-loop
 implied-takers-requires c κs = tt
 
 put-row-requires : tie.Need-put-row-requires Inv-loop μ-loop
-put-row-requires c κs = rw (c .before .implied-takers .ensures) (omega arith, omega arith, rows-room (c .before .before .before .before .loop .inv) (c .before .before .before .loop-test .taken) (c .before .before .before .before .before .before .before .pre .2))
+put-row-requires c κs =
+    let l = c .before .before .before .before .loop in
+    let pre = c .before .before .before .before .before .before .before .pre in
+    rw (c .before .implied-takers .ensures) (omega arith, omega arith, rows-room (l .inv) (c .before .before .before .loop-test .taken) (pre .2))
 
 add-giver : tie.Need-add-giver Inv-loop μ-loop
 add-giver c = omega arith
@@ -39,7 +41,8 @@ loop-less c = omega arith
 loop-again : tie.Need-loop-again Inv-loop μ-loop
 loop-again c =
     let row = c .before .before .before .before .implied-takers .ensures in
-    rows-put (c .before .before .before .before .before .before .before .loop .inv) (c .before .before .before .before .before .before .loop-test .taken) (c .before .before .put-row .result) _ (rw row at (c .before .before .put-row .ensures .0)) (rw row at (c .before .before .put-row .ensures .1))
+    let p = c .before .before .put-row in
+    rows-put (c .before .before .before .before .before .before .before .loop .inv) (c .before .before .before .before .before .before .loop-test .taken) (p .result) _ (rw row at (p .ensures .0)) (rw row at (p .ensures .1))
 
 same-length : tie.Need-same-length Inv-loop μ-loop
 same-length c = c .before .loop .inv .size

@@ -1,4 +1,4 @@
--- `implied::reach_level` meets its contract. The jobs that are left, from what the sets are now, lead to what the level leads to from the start. Assumes nothing.
+-- `implied::reach_level` meets its contract. The jobs that are left, from the sets as they are now, lead to what the level leads to. Assumes nothing.
 use mathlib.Core.Path.{_≡_, refl, sym, ap, _∙_}
 use mathlib.Core.List.{List}
 use Prim.Native.Nat.{ℕ, _^_, _<_}
@@ -18,7 +18,10 @@ abbrev μ-loop : tie.MeasureT-loop
 
 -- a turn takes the lowest job out
 turned : (c : tie.After-lowest Inv-loop μ-loop) → Turn (c .before .before .before .loop .rest) (c .lowest .result)
-turned c = turn (c .before .before .before .loop .rest) (c .before .before .is-empty .result) (c .lowest .result) (c .before .before .before .loop .inv .0) (c .before .before .is-empty .ensures) (c .before .if1 .taken) (c .lowest .ensures)
+turned c =
+    let l = c .before .before .before .loop in
+    let e = c .before .before .is-empty in
+    turn (l .rest) (e .result) (c .lowest .result) (l .inv .0) (e .ensures) (c .before .if1 .taken) (c .lowest .ensures)
 
 loop-holds : tie.Need-loop-holds Inv-loop μ-loop
 loop-holds c = (search needs, refl)
@@ -60,10 +63,11 @@ loop-again : tie.Need-loop-again Inv-loop μ-loop
 unfolding reachEach
 loop-again c =
     let l = c .before .before .before .before .before .before .before .before .loop in
+    let takers = c .before .before .before .before .before .before .before .before .before .before .args .takers .now in
     let u = turned (c .before .before .before .before .before) in (
       search needs,
       rw (c .rest .ensures, u .rest-is, c .before .union .ensures, c .before .before .beyond .ensures)
-          (ap (λ (ps : List ℕ). reachEach (c .before .before .before .before .before .before .before .before .before .before .args .takers .now) ps (l .reach)) (sym (u .first)) ∙ l .inv .1),
+          (ap (λ (ps : List ℕ). reachEach takers ps (l .reach)) (sym (u .first)) ∙ l .inv .1),
     )
 
 returns : tie.Need-returns Inv-loop μ-loop

@@ -8,7 +8,8 @@ use Rattle.implied.proofs.reached.Statement.{statement}
 use Rattle.implied.proofs.reached.Tie as tie
 
 abbrev Inv-loop : tie.InvT-loop
-Inv-loop takers levels reach₀ level₀ reach level = (level ≤ 66) × (reachEach takers (fromTop levels level) reach ≡ reachEach takers (fromTop levels level₀) reach₀)
+Inv-loop takers levels reach₀ level₀ reach level =
+    (level ≤ 66) × (reachEach takers (fromTop levels level) reach ≡ reachEach takers (fromTop levels level₀) reach₀)
 
 abbrev μ-loop : tie.MeasureT-loop
 μ-loop takers levels reach₀ level₀ reach level = level
