@@ -2,7 +2,8 @@
 
 use crate::generate::drafts::{self, boards_field, Draft};
 use crate::generate::random::Random;
-use crate::generate::{damage, hard, limits, shapes, tables};
+use crate::generate::{damage, grown, hard, limits, shapes, tables};
+use crate::reference::implied::{self, implied_needs};
 use crate::reference::lists;
 use crate::reference::needs::Graph;
 use crate::reference::reading::{read, JobFile, LONGEST_FILE, MOST_BOARDS};
@@ -21,7 +22,7 @@ const RARE: u64 = 1_000;
 pub fn run(tester: &mut Tester, seed: u64, index: u64) {
     tester.random = Random::new(seed, index);
     tester.label = format!("seed {seed} index {index}");
-    match index % 21 {
+    match index % 22 {
         0..=7 => sound(tester),
         8 => eight_boards(tester),
         9..=11 => small(tester),
@@ -30,6 +31,7 @@ pub fn run(tester: &mut Tester, seed: u64, index: u64) {
         16 | 17 => damaged_bytes(tester),
         18 => lengths(tester),
         19 => extra_jobs(tester),
+        20 => grown_files(tester),
         _ => many_tables(tester),
     }
     if index % RARE == 0 {
@@ -126,6 +128,99 @@ fn extras_verdict(planned: &[Result<Vec<u8>, u8>; 3]) -> (&'static str, Option<V
         [_, _, Ok(_)] => ("both planned, not each group", Some(Err("a group alone is refused".to_string()))),
         _ => ("a group refused, and both", None),
     }
+}
+
+/// Files that have grown, and the same files without the needs that follow from others.
+fn grown_files(tester: &mut Tester) {
+    let file = grown::draft(&mut tester.random, 64).mixed_bytes(&mut tester.random);
+    let implied = needs_that_follow(tester, &file);
+    tester.report.count("striking: needs that follow".to_string(), implied.len() as u64);
+    if implied.is_empty() {
+        return tester.report.answer("striking", "files without such needs".to_string());
+    }
+    tester.report.answer("striking", "files with such needs".to_string());
+    let struck = implied::struck(&file, &implied);
+    let Some(planned) = same_plan(tester, &file, &struck) else { return };
+    let kind = planned.as_ref().map_or_else(|number| format!("both refused {number}"), |_| "same table".to_string());
+    tester.report.answer("striking", kind);
+    for table in drawn_tables(&mut tester.random, &file, implied, planned.ok()) {
+        same_check(tester, &file, &struck, &table);
+    }
+}
+
+/// The needs of a sound file that follow from others, found in two ways. Without them none is left, and the windows and
+/// the width are the same.
+fn needs_that_follow(tester: &mut Tester, file: &[u8]) -> Vec<(usize, usize)> {
+    let read_file = read(file).expect("a sound file");
+    let implied = implied_needs(file).expect("a file without a circle");
+    let searched = implied::by_search(read_file.jobs.len(), &read_file.needs);
+    striking_case(tester, "needs that follow: closure and search", agree(&implied, &searched), file);
+    let struck = implied::struck(file, &implied);
+    striking_case(tester, "striking: none is left", agree(&implied_needs(&struck), &Ok(Vec::new())), file);
+    let windows = agree(&read(&struck).map(|struck| windows_and_width(&struck)), &Ok(windows_and_width(&read_file)));
+    striking_case(tester, "striking: windows and width", windows, file);
+    implied
+}
+
+/// Releases, deadlines and width under the file's limit.
+fn windows_and_width(file: &JobFile) -> (Vec<i32>, Vec<i32>, usize) {
+    let (graph, limit) = (Graph::new(file.jobs.len(), &file.needs), file.limit as i32);
+    let windows = graph.windows(limit);
+    (windows.releases, windows.deadlines, graph.width(limit))
+}
+
+/// Plans a file and the struck one: the same bytes or the same refusal, which is given; and the table of the one passes
+/// for the other.
+fn same_plan(tester: &mut Tester, file: &[u8], struck: &[u8]) -> Option<Result<Vec<u8>, u8>> {
+    let planned = tester.plan("plan: grown files", file);
+    let without = tester.plan("plan: struck files", struck);
+    striking_case(tester, "striking: the planner's answer", agree(&without, &planned), file);
+    for (checked, answer) in [(file, &without), (struck, &planned)] {
+        if let Ok(table) = answer {
+            let passes = tester.check("check: planned for the other file", checked, table);
+            striking_case(tester, "striking: planned tables pass", agree(&passes, &Ok(())), file);
+        }
+    }
+    (planned == without).then_some(planned)
+}
+
+/// Checks a table for a file and for the struck one.
+fn same_check(tester: &mut Tester, file: &[u8], struck: &[u8], table: &[u8]) {
+    let checked = tester.check("check: grown files", file, table);
+    let without = tester.check("check: struck files", struck, table);
+    let verdict = agree(&without, &checked);
+    if verdict.is_ok() {
+        let kind = checked.map_or_else(|number| format!("both refused {number}"), |()| "both pass".to_string());
+        tester.report.answer("striking, the check", kind);
+    }
+    striking_case(tester, "striking: the check's answer", verdict, file);
+}
+
+/// The planned table of a sound file, tables that are valid or valid for other most boards, and of each some that are
+/// wrong, one of them at one of these needs.
+fn drawn_tables(
+    random: &mut Random,
+    file: &[u8],
+    needs: Vec<(usize, usize)>,
+    planned: Option<Vec<u8>>,
+) -> Vec<Vec<u8>> {
+    let file = read(file).expect("a sound file");
+    let other = JobFile { boards: drafts::boards(random), ..file.clone() };
+    let valid = [tables::valid(random, &file), tables::valid(random, &other)];
+    let only = JobFile { needs, ..file.clone() };
+    let mut drawn = Vec::new();
+    for table in planned.and_then(|bytes| Table::read(&bytes)).into_iter().chain(valid.into_iter().flatten()) {
+        drawn.extend([table.bytes(), tables::broken(random, &file, &table), tables::damaged(random, &table)]);
+        let mut too_close = table;
+        tables::broken_need(random, &only, &mut too_close);
+        drawn.push(too_close.bytes());
+    }
+    drawn
+}
+
+fn striking_case(tester: &mut Tester, group: &'static str, verdict: Verdict, file: &[u8]) {
+    let label = &tester.label;
+    tester.report.case(group, verdict, || format!("{label}, file {}", shown(file)));
 }
 
 fn agree<T: PartialEq + Debug + ?Sized>(found: &T, expected: &T) -> Verdict {
@@ -327,22 +422,20 @@ fn damage_at(random: &mut Random, bytes: &mut [u8], at: usize) {
 }
 
 /// All needs between up to so many jobs, with every limit up to one more than the jobs, without most boards and with 1 to
-/// 4: against all start lists.
+/// 4: against all start lists, and with the needs struck that follow from others.
 pub fn all_small(tester: &mut Tester, most: u8) {
-    for jobs in 1..=most {
-        let pairs: Vec<(u8, u8)> =
-            (1..=jobs).flat_map(|giver| (1..=jobs).map(move |taker| (giver, taker))).filter(|(a, b)| a != b).collect();
-        for chosen in 0..1u64 << pairs.len() {
-            let needs: Vec<(u8, u8)> =
-                (0..pairs.len()).filter(|at| chosen >> at & 1 == 1).map(|at| pairs[at]).collect();
-            let boards = [None, Some(1), Some(2), Some(3), Some(4)];
-            for (limit, boards) in (1..=jobs + 1).flat_map(|limit| boards.map(|boards| (limit, boards))) {
-                let file = Draft { boards, ..Draft::plain(limit, jobs as usize, &needs) }.bytes();
-                tester.label = format!("{jobs} jobs, needs {needs:?}, limit {limit}, most boards {boards:?}");
-                match tester.plan("plan: all small gates", &file) {
-                    Err(11) => break,
-                    planned => all_lists(tester, &file, planned.ok().and_then(|table| starts_of(&table))),
-                }
+    for (jobs, needs) in shapes::all_needs(most) {
+        let boards = [None, Some(1), Some(2), Some(3), Some(4)];
+        for (limit, boards) in (1..=jobs + 1).flat_map(|limit| boards.map(|boards| (limit, boards))) {
+            let file = Draft { boards, ..Draft::plain(limit, jobs as usize, &needs) }.bytes();
+            tester.label = format!("{jobs} jobs, needs {needs:?}, limit {limit}, most boards {boards:?}");
+            match tester.plan("plan: all small gates", &file) {
+                Err(11) => break,
+                planned => all_lists(tester, &file, planned.ok().and_then(|table| starts_of(&table))),
+            }
+            let implied = needs_that_follow(tester, &file);
+            if !implied.is_empty() {
+                let _ = same_plan(tester, &file, &implied::struck(&file, &implied));
             }
         }
     }

@@ -1,24 +1,32 @@
 //! compare [SEED] [COUNT] [FIRST]: the named cases, all small gates, and the generated files of a seed from index FIRST
-//! on; and, if GATE_PLAN names it, the planning program. Ends in 'N passed, M failed'.
+//! on; and, if GATE_PLAN and GATE_IMPLIED name them, the planning program and the one that lists the needs that follow
+//! from others. Ends in 'N passed, M failed'.
 
 use gate_tests::{cases, paper, program, tester::Tester};
 use std::process::ExitCode;
+
+/// At most so many files that have grown are given to the program, each in a process of its own.
+const MOST_GROWN: u64 = 5_000;
 
 fn main() -> ExitCode {
     let mut numbers = std::env::args().skip(1).map(|word| word.parse::<u64>().expect("a number"));
     let seed = numbers.next().unwrap_or(1);
     let count = numbers.next().unwrap_or(100_000);
     let first = numbers.next().unwrap_or(0);
+    let most = if count < 50_000 { 3 } else { 4 };
 
     let mut tester = Tester::new();
     paper::run(&mut tester);
-    cases::all_small(&mut tester, if count < 50_000 { 3 } else { 4 });
+    cases::all_small(&mut tester, most);
     cases::program_p(&mut tester, seed, count / 20);
     for index in first..first + count {
         cases::run(&mut tester, seed, index);
     }
     if let Ok(name) = std::env::var("GATE_PLAN") {
-        program::run(&mut tester, &name, seed, count / 20);
+        program::plan(&mut tester, &name, seed, count / 20);
+    }
+    if let Ok(name) = std::env::var("GATE_IMPLIED") {
+        program::implied_needs(&mut tester, &name, most, seed, (count / 20).min(MOST_GROWN));
     }
     tester.report.print();
     if tester.report.failed == 0 {

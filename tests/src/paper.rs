@@ -1,12 +1,13 @@
 //! The cases that document 01 names, with their answers written out, and others whose answer its text settles, or that
-//! of requests 12 and 13 in document 02.
+//! of requests 5, 12 and 13 in document 02.
 
 use crate::generate::drafts::{boards_field, field, job_field, need_field, Draft};
 use crate::reference::entries::table_of;
+use crate::reference::implied::implied_needs;
 use crate::reference::needs::Graph;
 use crate::reference::reading::read;
 use crate::reference::table::{Row, Table};
-use crate::reference::text::printed;
+use crate::reference::text::{printed, printed_needs};
 use crate::report::shown;
 use crate::tester::Tester;
 
@@ -39,6 +40,11 @@ pub fn run(tester: &mut Tester) {
         let found = Graph::new(read.jobs.len(), &read.needs).width(read.limit as i32);
         let verdict = if found == width { Ok(()) } else { Err(format!("width {found}, not {width}")) };
         tester.report.case("named: width", verdict, || name.to_string());
+    }
+    for (name, file, listed) in implied_cases() {
+        let found = printed_needs(&implied_needs(&file));
+        let verdict = if found == listed { Ok(()) } else { Err(found) };
+        tester.report.case("named: needs that follow", verdict, || name.to_string());
     }
     printed_example(tester);
     checked(tester);
@@ -194,6 +200,60 @@ fn most_boards_cases() -> Vec<(&'static str, Vec<u8>, Answer)> {
         ("tag 8", other_tag(8), Refused(4)),
         ("tag 10", other_tag(10), Refused(4)),
     ]
+}
+
+/// Files, and what the list of needs that follow from others prints for them; among them each file above that the
+/// questions up to 11, or 21, refuse.
+pub fn implied_cases() -> Vec<(&'static str, Vec<u8>, String)> {
+    let refused =
+        planned_cases().into_iter().chain(most_boards_cases()).filter_map(|(name, file, answer)| match answer {
+            Refused(number @ (2..=11 | 21)) => Some((name, file, format!("refused {number}\n"))),
+            _ => None,
+        });
+    let listed = listed_cases().into_iter().map(|(name, draft, text)| (name, draft.bytes(), text.to_string()));
+    listed.chain([all_pairs()]).chain(refused).collect()
+}
+
+fn listed_cases() -> Vec<(&'static str, Draft, &'static str)> {
+    let plain = |jobs, needs: &[(u8, u8)]| Draft::plain(9, jobs, needs);
+    let chain = |jobs, more: &[(u8, u8)]| {
+        let draft = Draft::chain(64, jobs);
+        Draft { needs: [more, &draft.needs].concat(), ..draft }
+    };
+    let shortcut = [(1, 2), (2, 3), (1, 3)];
+    vec![
+        ("1-2, 2-3 and also 1-3", plain(3, &shortcut), "1 3\n"),
+        ("the need that follows first", plain(3, &[(1, 3), (2, 3), (1, 2)]), "1 3\n"),
+        ("the jobs the other way round", plain(3, &[(3, 2), (3, 1), (2, 1)]), "3 1\n"),
+        ("no needs", plain(1, &[]), ""),
+        ("1-2, 2-3", plain(3, &shortcut[..2]), ""),
+        ("one other need from the giver", plain(3, &[(1, 2), (1, 3)]), ""),
+        ("one other need to the taker", plain(3, &[(2, 3), (1, 3)]), ""),
+        ("two other needs that do not meet", plain(4, &[(1, 2), (3, 4), (1, 4)]), ""),
+        ("figure 1", plain(8, &FIGURE_1), ""),
+        ("two paths", plain(4, &[(1, 2), (2, 4), (1, 3), (3, 4)]), ""),
+        ("two paths and a need beside them", plain(4, &[(1, 2), (2, 4), (1, 3), (3, 4), (1, 4)]), "1 4\n"),
+        ("a need over three steps", chain(4, &[(1, 4)]), "1 4\n"),
+        ("a need over 63 steps", chain(64, &[(1, 64)]), "1 64\n"),
+        ("a path through a need that is listed", chain(4, &[(1, 4), (1, 3)]), "1 3\n1 4\n"),
+        ("a path of listed needs alone", chain(5, &[(3, 5), (1, 5), (1, 3)]), "1 3\n1 5\n3 5\n"),
+        ("givers before takers", plain(6, &[(2, 6), (6, 3), (2, 3), (1, 5), (5, 4), (1, 4)]), "1 4\n2 3\n"),
+        ("takers of one giver", plain(4, &[(4, 3), (3, 2), (2, 1), (4, 2), (3, 1), (4, 1)]), "3 1\n4 1\n4 2\n"),
+        ("9 before 10, 2 before 10", chain(12, &[(10, 12), (2, 10), (2, 9)]), "2 9\n2 10\n10 12\n"),
+        ("most boards", Draft { boards: Some(1), ..plain(3, &shortcut) }, "1 3\n"),
+        ("too wide to plan", Draft::plain(9, 12, &shortcut), "1 3\n"),
+        ("more slots than the limit", Draft::plain(1, 3, &shortcut), "1 3\n"),
+        ("a circle of three", plain(3, &[(1, 2), (2, 3), (3, 1)]), "refused 11\n"),
+        ("a circle beside a need that follows", plain(5, &[&shortcut[..], &[(4, 5), (5, 4)]].concat()), "refused 11\n"),
+    ]
+}
+
+/// Each of 64 jobs needs all before it: all but those for the job right before follow.
+fn all_pairs() -> (&'static str, Vec<u8>, String) {
+    let pairs = |apart: u8| (1..=64).flat_map(move |giver| (giver + apart..=64).map(move |taker| (giver, taker)));
+    let needs: Vec<(u8, u8)> = pairs(1).collect();
+    let text = pairs(2).map(|(giver, taker)| format!("{giver} {taker}\n")).collect();
+    ("all pairs of 64 jobs", Draft::plain(64, 64, &needs).bytes(), text)
 }
 
 /// Files with the width that document 01 gives.

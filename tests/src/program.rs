@@ -1,26 +1,73 @@
-//! Tries the planning program: what it prints for generated files, each on its standard input.
+//! Tries the programs: what they print for named and generated files, each on their standard input.
 
-use crate::generate::damage;
 use crate::generate::drafts::Draft;
 use crate::generate::random::Random;
-use crate::reference::entries::plan;
+use crate::generate::{damage, grown, shapes};
+use crate::paper;
+use crate::reference::entries;
+use crate::reference::implied;
 use crate::reference::reading::LONGEST_FILE;
-use crate::reference::text::printed;
+use crate::reference::text::{printed, printed_needs};
 use crate::report::shown;
 use crate::stage::Verdict;
 use crate::tester::Tester;
 use std::io::{Result, Write};
 use std::process::{Command, Stdio};
 
-pub fn run(tester: &mut Tester, program: &str, seed: u64, count: u64) {
+/// The planning program.
+pub fn plan(tester: &mut Tester, program: &str, seed: u64, count: u64) {
     for index in 0..count {
-        let file = file(&mut Random::new(seed ^ 0x706c_616e, index));
-        let expected = printed(&plan(&file, usize::MAX, usize::MAX));
-        let verdict = output(program, &file)
-            .map_err(|error| error.to_string())
-            .and_then(|found| same(&String::from_utf8_lossy(&found), &expected));
-        tester.report.case("program plan", verdict, || format!("file {}", shown(&file)));
+        let mut random = Random::new(seed ^ 0x706c_616e, index);
+        let draft = Draft::sound(&mut random, 64);
+        tester.label = format!("seed {seed} program file {index}");
+        let file = sound_or_damaged(&mut random, &draft);
+        let expected = printed(&entries::plan(&file, usize::MAX, usize::MAX));
+        prints(tester, "program plan", program, &file, &expected);
     }
+}
+
+/// The program that lists the needs that follow from others: the named files, all needs between up to so many jobs, and
+/// files that have grown, of which some have a circle or damage.
+pub fn implied_needs(tester: &mut Tester, program: &str, most: u8, seed: u64, count: u64) {
+    for (name, file, expected) in paper::implied_cases() {
+        tester.label = name.to_string();
+        prints(tester, "program implied_needs: named", program, &file, &expected);
+    }
+    for (jobs, needs) in shapes::all_needs(most) {
+        tester.label = format!("{jobs} jobs, needs {needs:?}");
+        let file = Draft::plain(1, jobs as usize, &needs).bytes();
+        lists(tester, "program implied_needs: all small gates", program, &file);
+    }
+    for index in 0..count {
+        let mut random = Random::new(seed ^ 0x696d_706c, index);
+        let mut draft = grown::draft(&mut random, 64);
+        if random.percent(10) {
+            grown::close_circle(&mut random, &mut draft);
+        }
+        tester.label = format!("seed {seed} program file {index}");
+        let file = sound_or_damaged(&mut random, &draft);
+        lists(tester, "program implied_needs: grown files", program, &file);
+    }
+}
+
+/// The program prints the needs that the reference lists.
+fn lists(tester: &mut Tester, group: &'static str, program: &str, file: &[u8]) {
+    let implied = implied::implied_needs(file);
+    let kind = match &implied {
+        Ok(needs) if needs.is_empty() => "nothing".to_string(),
+        Ok(_) => "needs".to_string(),
+        Err(number) => format!("refused {number:>2}"),
+    };
+    tester.report.answer("implied_needs", kind);
+    prints(tester, group, program, file, &printed_needs(&implied));
+}
+
+fn prints(tester: &mut Tester, group: &'static str, program: &str, file: &[u8], expected: &str) {
+    let verdict = output(program, file)
+        .map_err(|error| error.to_string())
+        .and_then(|found| same(&String::from_utf8_lossy(&found), expected));
+    let label = &tester.label;
+    tester.report.case(group, verdict, || format!("{label}, file {}", shown(file)));
 }
 
 fn same(found: &str, expected: &str) -> Verdict {
@@ -31,13 +78,13 @@ fn same(found: &str, expected: &str) -> Verdict {
     }
 }
 
-fn file(random: &mut Random) -> Vec<u8> {
-    let draft = Draft::sound(random, 64);
+/// The draft's bytes, now and then damaged or filled up to the longest file that is read, or one byte more.
+fn sound_or_damaged(random: &mut Random, draft: &Draft) -> Vec<u8> {
     let mut file = draft.mixed_bytes(random);
     let length = LONGEST_FILE + random.below(2);
     match random.below(8) {
         0 => damage::bytes(random, &mut file),
-        1 => file = damage::fields(random, &draft),
+        1 => file = damage::fields(random, draft),
         2 => file = damage::filled(random, &file, length),
         _ => (),
     }

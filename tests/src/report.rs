@@ -30,7 +30,12 @@ impl Report {
 
     /// Counts an answer that document 01 gives, so that one can see what was tried.
     pub fn answer(&mut self, entry: &str, answer: String) {
-        *self.answers.entry(format!("{entry}: {answer}")).or_default() += 1;
+        self.count(format!("{entry}: {answer}"), 1);
+    }
+
+    /// Counts what was met, so many times at once.
+    pub fn count(&mut self, met: String, times: u64) {
+        *self.answers.entry(met).or_default() += times;
     }
 
     pub fn print(&self) {

@@ -1,14 +1,16 @@
-// What the programs plan, plan_table, check_table and show_table do. Each gives the number of the question that said no, as it printed it; 0 where none
-// did, or where a file could not be read or written.
+// What the programs plan, plan_table, check_table, show_table and implied_needs do. Each gives the number of the question that said no, as it printed it; 0
+// where none did, or where a file could not be read or written.
 //
 // A job file of more than 16,384 bytes fills its buffer, and is refused by question 2, whatever follows. A table file has at most 1,222
 // bytes: one that fills a buffer of 4,096 is refused by question 14.
 mod grid;
+mod pairs;
 mod report;
 
 use gate::Found;
 use gate::Planned;
 use gate::Verdict;
+use implied::Listed;
 use libc::STDERR_FILENO;
 use libc::STDIN_FILENO;
 use libc::STDOUT_FILENO;
@@ -16,6 +18,7 @@ ghost use mathlib.Core.Path.{_≡_};
 ghost use mathlib.Core.Logic.{_⊎_};
 ghost use Prim.Native.Nat.{_≤_};
 ghost use Rattle.gate.specs.Numbers.{plannedNumber, verdictNumber};
+ghost use Rattle.implied.specs.Listing.{listedNumber};
 
 // The line of a refusal; gives its number.
 fn print_refused(number: u8) -> u8
@@ -155,4 +158,28 @@ pub fn show_table() -> u8
     }
     let n = t.count;
     print_table(&table[..n])
+}
+
+// Prints the pairs that are listed, from the front of the list, or that the job file is refused; gives the number.
+fn print_listed(l: Listed, list: &[u16]) -> u8
+    ensures { λ r. ⌜ r ≡ listedNumber l ⌝ }
+{
+    match l {
+        Listed::Pairs(count) => {
+            pairs::print(pairs::first(list, count));
+            0
+        }
+        Listed::Refused(number) => print_refused(number),
+    }
+}
+
+// Prints the needs that follow from others, of a job file that is read from standard input: giver and taker, a line for each; or that the file is refused.
+pub fn implied_needs() -> u8
+    ensures { λ r. ⌜ (r ≤ 11) ⊎ (r ≡ 21) ⌝ }
+{
+    let mut file = [0u8; 16385];
+    let mut list = [0u16; 6552];
+    let n = io::read_full(STDIN_FILENO, &mut file);
+    let l = implied::implied_needs(&file[..n], &mut list);
+    print_listed(l, &list)
 }

@@ -1,5 +1,6 @@
 -- The ways out of `implied_needs`, by what it has tested. Assumes nothing.
 use mathlib.Core.Path.{_≡_, refl, sym, ap, ap₂, _∙_}
+use mathlib.Core.Logic.{_⊎_}
 use mathlib.Core.Bool.{true, false}
 use mathlib.Core.List.{List, _++_, map}
 use Prim.Native.Nat.{ℕ, zero, suc, _+_, _-_, _/_, _≤_, _<_}
@@ -11,13 +12,13 @@ use Rattle.rules.specs.Basics.{at, range}
 use Rattle.rules.specs.Fields.{Answer, refused, got, ask, after, numberOf}
 use Rattle.rules.specs.Needs.{Need, NeedsIn, circleFree}
 use Rattle.rules.specs.JobFile.{JobFile, readFile}
-use Rattle.rules.specs.Implied.{impliedTakers, impliedFrom, impliedNeeds, impliedIn, pairNumbers, listed, listImplied}
+use Rattle.rules.specs.Implied.{impliedTakers, impliedFrom, impliedNeeds, impliedIn, Listing, pairNumbers, listed, listImplied}
 use Rattle.laws.specs.Tests.{T-true, T-leb, choose-yes, choose-no}
 use Rattle.laws.specs.Lists.{filter-same}
 use Rattle.laws.specs.Counting.{range-below}
 use Rattle.laws.specs.Numbers.{bytes-all}
 use Rattle.laws.specs.JobFile.{readable, needs-in}
-use Rattle.laws.specs.Refusals.{read-got}
+use Rattle.laws.specs.Refusals.{read-got, implied-most}
 use Rattle.laws.specs.Circles.{circle-free}
 use Rattle.laws.specs.Implied.{pairs-append, pairs-length, list-fits}
 use Rattle.jobset.specs.Sets.{setAt}
@@ -28,10 +29,11 @@ use Rattle.windows.specs.declared.JobLevels.{JobLevels}
 use Rattle.windows.specs.Levels.{levelsOf}
 use Rattle.windows.specs.LevelLaws.{levels-ok}
 use Rattle.windows.specs.Windows.{table, levelSet}
+use Rattle.implied.specs.declared.Listed.{Listed}
 use Rattle.implied.specs.declared.Listed.the-variants.{Pairs, Refused}
 use Rattle.implied.specs.Reach.{reachEach, fromTop, impliedSet}
 use Rattle.implied.specs.ReachLaws.{Takers, Right, all-right, implied-member}
-use Rattle.implied.specs.Listing.{put, takersOf, rowNumbers, rowsNumbers, listingOf}
+use Rattle.implied.specs.Listing.{put, takersOf, rowNumbers, rowsNumbers, listingOf, listedNumber}
 use Rattle.implied.specs.ListingLaws.{put-front}
 
 -- ---- the rows are the rules' list
@@ -164,3 +166,13 @@ module _ {file list : List ℕ} {F : Counts} {offsets givers takers : List ℕ} 
           let half : length rows / 2 ≡ length ds = omega (arith, ap length rows-is, pairs-length ds) in
           ap₂ (λ (k : ℕ) (l : List ℕ). record { number = 0; pairs = k; list = l }) half (put-front rows list rows-fit ∙ rw rows-is refl)
           ∙ sym (leads file list (r .room) (got ds) (asked ∙ rw no-circle refl))
+
+-- ---- the number
+
+-- none is greater than 11, but 21
+pub listed-most : (file list after : List ℕ) (l : Listed) → listingOf l after ≡ listImplied file list → (listedNumber l ≤ 11) ⊎ (listedNumber l ≡ 21)
+listed-most file list after l e = rw (number l ∙ ap (λ (x : Listing). x .number) e) (implied-most file list)
+  where
+    number : (l : Listed) → listedNumber l ≡ listingOf l after .number
+    number (Pairs n) = unfold listedNumber listingOf in refl
+    number (Refused q) = unfold listedNumber listingOf in refl

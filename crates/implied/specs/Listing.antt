@@ -33,3 +33,8 @@ rowsNumbers takers reach n (suc c) g =
 unfoldable pub listingOf : Listed → List ℕ → Listing
 listingOf (Pairs n) list = record { number = 0; pairs = n; list = list }
 listingOf (Refused q) list = record { number = q; pairs = 0; list = list }
+
+-- the number of each answer: 0 for a list
+unfoldable pub listedNumber : Listed → ℕ
+listedNumber (Pairs n) = 0
+listedNumber (Refused q) = q

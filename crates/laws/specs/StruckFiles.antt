@@ -261,18 +261,19 @@ listed-is bs bytes ds = (to, from)
     from (f, read, free, same) =
         rw read (ask-yes _ 11 _ (circle-free (length (f .jobs)) (f .needs) (needs-in f (readable bs bytes f read)) .1 free) ∙ ap got (sym same))
 
--- the same of what is listed: the fields of these needs taken out, the planner leaves the same bytes and the check answers the same
-pub struck-planned : (bs : List ℕ) → Bytes bs → (ds : List Need) → impliedIn bs ≡ got ds → (work table : List ℕ) → plan (strike ds bs) work table ≡ plan bs work table
-struck-planned bs bytes ds e work table =
-    let (f, read, free, same) = listed-is bs bytes ds .0 e in
-    let (g, says, w, stays) = strike-unchanged bs bytes f read free in
-    rw same (stays .planned work table)
+-- the same of what is listed: with the fields of these needs taken out, the planner leaves the same bytes and the check answers the same
+module _ (bs : List ℕ) (bytes : Bytes bs) (ds : List Need) (e : impliedIn bs ≡ got ds) where
+  pub struck-planned : (work table : List ℕ) → plan (strike ds bs) work table ≡ plan bs work table
+  struck-planned work table =
+      let (f, read, free, same) = listed-is bs bytes ds .0 e in
+      let (g, says, w, stays) = strike-unchanged bs bytes f read free in
+      rw same (stays .planned work table)
 
-pub struck-checked : (bs : List ℕ) → Bytes bs → (ds : List Need) → impliedIn bs ≡ got ds → (table : List ℕ) → check (strike ds bs) table ≡ check bs table
-struck-checked bs bytes ds e table =
-    let (f, read, free, same) = listed-is bs bytes ds .0 e in
-    let (g, says, w, stays) = strike-unchanged bs bytes f read free in
-    rw same (stays .checked table)
+  pub struck-checked : (table : List ℕ) → check (strike ds bs) table ≡ check bs table
+  struck-checked table =
+      let (f, read, free, same) = listed-is bs bytes ds .0 e in
+      let (g, says, w, stays) = strike-unchanged bs bytes f read free in
+      rw same (stays .checked table)
 
 -- the struck file is one of bytes
 pub strike-bytes : (ds : List Need) (bs : List ℕ) → Bytes bs → Bytes (strike ds bs)

@@ -2,6 +2,7 @@
 
 pub mod damage;
 pub mod drafts;
+pub mod grown;
 pub mod hard;
 pub mod limits;
 pub mod random;

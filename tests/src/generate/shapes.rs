@@ -29,6 +29,23 @@ pub fn any(random: &mut Random, jobs: usize) -> Shape {
     renumbered(random, Shape { jobs, needs })
 }
 
+/// All needs that jobs in a row can have, the jobs numbered in any order.
+pub fn full(random: &mut Random, jobs: usize) -> Shape {
+    let needs = (0..jobs).flat_map(|taker| (0..taker).map(move |giver| (giver, taker))).collect();
+    renumbered(random, Shape { jobs, needs })
+}
+
+/// All needs between up to so many jobs, numbered from 1, with and without circles: how many jobs, and the needs.
+pub fn all_needs(most: u8) -> impl Iterator<Item = (u8, Vec<(u8, u8)>)> {
+    (1..=most).flat_map(|jobs| {
+        let pairs: Vec<(u8, u8)> =
+            (1..=jobs).flat_map(|giver| (1..=jobs).map(move |taker| (giver, taker))).filter(|(a, b)| a != b).collect();
+        (0..1u64 << pairs.len()).map(move |chosen| {
+            (jobs, (0..pairs.len()).filter(|at| chosen >> at & 1 == 1).map(|at| pairs[at]).collect())
+        })
+    })
+}
+
 fn chain(jobs: usize) -> Vec<(usize, usize)> {
     (1..jobs).map(|job| (job - 1, job)).collect()
 }

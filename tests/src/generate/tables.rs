@@ -132,7 +132,7 @@ fn shared_place(random: &mut Random, table: &mut Table) {
 }
 
 /// Question 18: a taker moved close to one of its givers, or two takers both right after it.
-fn broken_need(random: &mut Random, file: &JobFile, table: &mut Table) {
+pub fn broken_need(random: &mut Random, file: &JobFile, table: &mut Table) {
     if file.needs.is_empty() {
         return;
     }

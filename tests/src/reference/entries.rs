@@ -24,7 +24,7 @@ pub fn plan(file: &[u8], work_len: usize, table_len: usize) -> Result<Vec<u8>, u
 }
 
 /// The graph of the needs, unless it has a circle: question 11.
-fn sound_graph(file: &JobFile) -> Result<Graph, u8> {
+pub fn sound_graph(file: &JobFile) -> Result<Graph, u8> {
     let graph = Graph::new(file.jobs.len(), &file.needs);
     if graph.has_circle() {
         Err(11)

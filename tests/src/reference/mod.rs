@@ -1,9 +1,10 @@
-//! Document 01, as request 13 of document 02 changes it, written a second time, to compare the compiled library with. It
-//! shares nothing with the library: own reading, own search, own check and lookup. Jobs are counted from 0 here and from
-//! 1 in files, tables and answers.
+//! Document 01, as request 13 of document 02 changes it, and the list of request 5, written a second time, to compare
+//! the compiled library and the programs with. It shares nothing with them: own reading, own search, own check and lookup,
+//! own list. Jobs are counted from 0 here and from 1 in files, tables and answers.
 
 pub mod boards;
 pub mod entries;
+pub mod implied;
 pub mod lists;
 pub mod needs;
 pub mod reading;

@@ -26,9 +26,14 @@ impl Graph {
         self.givers.len()
     }
 
-    /// Does a chain of needs lead from some job back to it? By Warshall's closure: after round `middle`, `reach` has
-    /// the chains whose inner jobs are at most `middle`.
+    /// Does a chain of needs lead from some job back to it?
     pub fn has_circle(&self) -> bool {
+        self.closure().iter().enumerate().any(|(job, set)| set >> job & 1 == 1)
+    }
+
+    /// For each job those that a chain of needs leads to, by Warshall: after round `middle`, `reach` has the chains
+    /// whose inner jobs are at most `middle`.
+    pub fn closure(&self) -> Vec<u64> {
         let mut reach: Vec<u64> = self.takers.iter().map(|takers| mask(takers)).collect();
         for middle in 0..reach.len() {
             let onward = reach[middle];
@@ -38,7 +43,7 @@ impl Graph {
                 }
             }
         }
-        reach.iter().enumerate().any(|(job, set)| set >> job & 1 == 1)
+        reach
     }
 
     /// The windows for an upper bound on slots. Only for needs without a circle.

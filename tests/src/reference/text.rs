@@ -1,4 +1,4 @@
-//! What the planning program prints.
+//! What the programs print.
 
 use super::table::Table;
 
@@ -6,7 +6,7 @@ use super::table::Table;
 pub fn printed(planned: &Result<Vec<u8>, u8>) -> String {
     match planned {
         Ok(bytes) => Table::read(bytes).map_or(String::new(), |table| listed(&table)),
-        Err(number) => format!("refused {number}\n"),
+        Err(number) => refusal(*number),
     }
 }
 
@@ -17,4 +17,16 @@ fn listed(table: &Table) -> String {
         text += &format!("{} {name} {} {} {}\n", at + 1, row.start, row.board, row.level);
     }
     text
+}
+
+/// The text for the needs that follow from others, a pair a line, or for the refusal.
+pub fn printed_needs(implied: &Result<Vec<(usize, usize)>, u8>) -> String {
+    match implied {
+        Ok(needs) => needs.iter().map(|(giver, taker)| format!("{} {}\n", giver + 1, taker + 1)).collect(),
+        Err(number) => refusal(*number),
+    }
+}
+
+fn refusal(number: u8) -> String {
+    format!("refused {number}\n")
 }

@@ -41,9 +41,16 @@ is-read c = record {
 is-free : (c : tie.Else3) → c .before .before .levels .result .ok ≡ true
 is-free c = not-false _ (c .if3 .left)
 
+-- behind the last call but one: where the circle test was left without a circle
+abbrev circle-left : (c : tie.After-reached) → tie.Else3
+circle-left c = c .before .before .before .before .before .before .before
+
+abbrev file-left : (c : tie.After-reached) → tie.Else2
+file-left c = circle-left c .before .before .before .before
+
 -- what each job reaches, by the levels that the circle test gave
-reach-is : (c : tie.After-reached) → let l = c .before .before .before .before .before .before .before .before .before .levels .result .level in let n = c .before .before .before .before .before .before .before .before .before .before .before .before .read-file .result .jobs in
-    c .reached .result ≡ reachEach (takersIn (tables (c .before .before .before .before .before .before .before .before .before .before .before .before))) (fromTop (table (levelSet l n)) 66) (replicate 64 0)
+reach-is : (c : tie.After-reached) → let l = circle-left c .before .before .levels .result .level in let n = file-left c .before .read-file .result .jobs in
+    c .reached .result ≡ reachEach (takersIn (tables (file-left c .before))) (fromTop (table (levelSet l n)) 66) (replicate 64 0)
 reach-is c = rw (c .before .before .before .before .by-level .ensures) at (c .reached .ensures)
 
 returns : tie.Need-returns
@@ -97,23 +104,20 @@ part-put-rows-end c = omega (arith, long (c .before .before .before .before .bef
 
 put-rows-requires : tie.Need-put-rows-requires
 put-rows-requires c κs =
-    let r = is-read (c .before .before .before .before .before .before .before .before .before .before .before .before .before .before .before) in
-    let levels = c .before .before .before .before .before .before .before .before .before .before .before .before .before .levels in
-    let e = reach-is (c .before .before .before .before) in
-    let free = is-free (c .before .before .before .before .before .before .before .before .before .before .before) in
-    (jobs-few r, omega (arith, takers-long (c .before .before .before .before .before .before .before .before .before .before .before .before .before .before .before .before)), rw e (rows-fit r (levels .result) (levels .ensures) free))
+    let s = c .before .before .before .before in
+    let r = is-read (file-left s) in
+    let levels = circle-left s .before .before .levels in
+    (jobs-few r, omega (arith, takers-long (file-left s .before)), rw (reach-is s) (rows-fit r (levels .result) (levels .ensures) (is-free (circle-left s))))
 
 same-length : tie.Need-same-length
 same-length c = search needs
 
 returns-4 : tie.Need-returns-4
 returns-4 c =
+    let s = c .before .before .before .before .before .before .before in
     let p = c .before .before .put-rows in
-    let e = reach-is (c .before .before .before .before .before .before .before) in
-    let r = is-read (c .before .before .before .before .before .before .before .before .before .before .before .before .before .before .before .before .before .before) in
-    let levels = c .before .before .before .before .before .before .before .before .before .before .before .before .before .before .before .before .levels in
-    let free = is-free (c .before .before .before .before .before .before .before .before .before .before .before .before .before .before) in
-    rw (p .ensures .0, p .ensures .1, e) (all-listed r (levels .result) (levels .ensures) free)
+    let levels = circle-left s .before .before .levels in
+    rw (p .ensures .0, p .ensures .1, reach-is s) (all-listed (is-read (file-left s)) (levels .result) (levels .ensures) (is-free (circle-left s)))
 
 pub implied-needs-spec : {M : Type 1} → statement M
 implied-needs-spec =

@@ -42,7 +42,8 @@ loop-again : tie.Need-loop-again Inv-loop μ-loop
 loop-again c =
     let row = c .before .before .before .before .implied-takers .ensures in
     let p = c .before .before .put-row in
-    rows-put (c .before .before .before .before .before .before .before .loop .inv) (c .before .before .before .before .before .before .loop-test .taken) (p .result) _ (rw row at (p .ensures .0)) (rw row at (p .ensures .1))
+    let l = c .before .before .before .before .before .before .before .loop in
+    rows-put (l .inv) (c .before .before .before .before .before .before .loop-test .taken) (p .result) _ (rw row at (p .ensures .0)) (rw row at (p .ensures .1))
 
 same-length : tie.Need-same-length Inv-loop μ-loop
 same-length c = c .before .loop .inv .size
