@@ -60,9 +60,9 @@ module _ (g : ℕ) (s : Set) (n k : ℕ) (h : k < n) where
       choose (member s (63 - k)) (k ∷ r) r) (sym (add-one k))
 
   -- job k is a taker, or it is none
-  row-in : member s (63 - k) ≡ true → rowFrom g s n k ≡ (g + 1) ∷ (k + 1) ∷ rowFrom g s n (k + 1)
+  row-in : member s (63 - k) ≡ true → rowFrom g s n k ≡ rowNumbers g (k ∷ []) ++ rowFrom g s n (k + 1)
   unfolding rowNumbers pairNumbers choose
-  row-in m = rw (takers-step, m, add-one g, add-one k) refl
+  row-in m = rw (takers-step, m) refl
 
   row-out : member s (63 - k) ≡ false → rowFrom g s n k ≡ rowFrom g s n (k + 1)
   unfolding choose
@@ -88,18 +88,20 @@ row-start g s n list count =
 
 module _ {g : ℕ} {s : Set} {n : ℕ} {list₀ : List ℕ} {count k next : ℕ} {list : List ℕ} (r : RowSoFar g s n list₀ count k next list) where
   module _ (h : k < n) where
-    -- a pair of entries is written where job k is a taker, and there is room for it
+    -- where job k is a taker, there is room for its pair
     pub row-room : member s (63 - k) ≡ true → count + length (rowNumbers g (takersOf s n 0)) ≤ length list₀ → next + 2 ≤ length list
+    unfolding rowNumbers pairNumbers
     row-room m fits = omega (arith, fits, r .size, r .entries, ap length (row-in g s n k h m))
 
-    pub row-put : member s (63 - k) ≡ true → RowSoFar g s n list₀ count (k + 1) (next + 2) (set (set list next (g + 1)) (next + 1) (k + 1))
-    unfolding put
-    row-put m = record {
+    -- and it is written
+    pub row-put : member s (63 - k) ≡ true → (l : List ℕ) → l ≡ put next (rowNumbers g (k ∷ [])) list → RowSoFar g s n list₀ count (k + 1) (next + 2) l
+    unfolding rowNumbers pairNumbers
+    row-put m l e = record {
       short = omega arith;
-      size = length-set (set list next (g + 1)) (next + 1) (k + 1) ∙ length-set list next (g + 1) ∙ r .size;
+      size = ap length e ∙ length-put next (rowNumbers g (k ∷ [])) list ∙ r .size;
       entries = omega (arith, r .entries, ap length (row-in g s n k h m));
       same =
-          ap (λ (j : ℕ). put j (rowFrom g s n (k + 1)) (set (set list next (g + 1)) (next + 1) (k + 1))) (omega arith)
+          ap (put (next + 2) (rowFrom g s n (k + 1))) e ∙ sym (put-append next (rowNumbers g (k ∷ [])) (rowFrom g s n (k + 1)) list)
           ∙ ap (λ (xs : List ℕ). put next xs list) (sym (row-in g s n k h m)) ∙ r .same;
     }
 

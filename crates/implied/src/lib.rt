@@ -3,6 +3,7 @@
 // Jobs are counted from 0 here. In a set, and in an array of sets, job i stands at place 63 - i (crate jobset).
 use jobset::Set;
 ghost use mathlib.Core.Path.{_≡_};
+ghost use mathlib.Core.List.{[], _∷_};
 ghost use Prim.Native.Nat.{_+_, _-_, _≤_, _<_};
 ghost use lib.ListN.{length, replicate};
 ghost use Rattle.rules.specs.Implied.{listImplied};
@@ -69,6 +70,15 @@ fn implied_takers(takers: Set, reach: &[u64; 64]) -> Set
     takers.intersection(beyond(reach, takers))
 }
 
+// A pair, as the file numbers its jobs, at entry `at` of the list.
+fn put_pair(giver: usize, taker: usize, list: &mut [u16], at: usize)
+    requires { ⌜ (giver < 64) × (taker < 64) × (at + 2 ≤ length (now list)) ⌝ }
+    ensures { λ _. ⌜ now (list .exit) ≡ put at (rowNumbers giver (taker ∷ [])) (now (list .entry)) ⌝ }
+{
+    list[at] = (giver + 1) as u16;
+    list[at + 1] = (taker + 1) as u16;
+}
+
 // The pairs of a giver with each of these takers, in rising order, from entry `count` of the list on; gives the entry behind them.
 fn put_row(giver: usize, takers: Set, jobs: usize, list: &mut [u16], count: usize) -> usize
     requires { ⌜ (jobs ≤ 64) × (giver < 64) × (count + length (rowNumbers giver (takersOf takers jobs 0)) ≤ length (now list)) ⌝ }
@@ -81,8 +91,7 @@ fn put_row(giver: usize, takers: Set, jobs: usize, list: &mut [u16], count: usiz
         let taker = k;
         k += 1;
         if takers.has(63 - taker) {
-            list[next] = (giver + 1) as u16;
-            list[next + 1] = k as u16;
+            put_pair(giver, taker, list, next);
             next += 2;
         }
     }
@@ -123,7 +132,7 @@ pub fn implied_needs(file: &[u8], list: &mut [u16]) -> Listed
     if number != 0 {
         return Listed::Refused(number);
     }
-    let before = windows::levels(&tables[..64], f.jobs);
+    let before = windows::levels(&tables[0..64], f.jobs);
     if !before.ok {
         return Listed::Refused(11);
     }

@@ -1,7 +1,7 @@
 -- `implied::implied_needs` meets its contract. Assumes nothing.
-use mathlib.Core.Path.{_≡_, refl, sym}
-use mathlib.Core.List.{List}
+use mathlib.Core.Path.{_≡_, refl}
 use mathlib.Core.Bool.{true}
+use mathlib.Core.List.{List}
 use Prim.Native.Nat.{ℕ}
 use native.Mathlib.Omega.{arith}
 use borrow.Author.Needs.{needs}
@@ -41,16 +41,18 @@ is-read c = record {
 is-free : (c : tie.Else3) → c .before .before .levels .result .ok ≡ true
 is-free c = not-false _ (c .if3 .left)
 
--- behind the last call but one: where the circle test was left without a circle
-abbrev circle-left : (c : tie.After-reached) → tie.Else3
-circle-left c = c .before .before .before .before .before .before .before
+-- from the last call but one back to the circle test, and to the reading of the file
+abbrev behind-circles : (c : tie.After-reached) → tie.Else3
+behind-circles c = c .before .before .before .before .before .before .before
 
-abbrev file-left : (c : tie.After-reached) → tie.Else2
-file-left c = circle-left c .before .before .before .before
+abbrev behind-reading : (c : tie.After-reached) → tie.Else2
+behind-reading c = behind-circles c .before .before .before .before .before
 
 -- what each job reaches, by the levels that the circle test gave
-reach-is : (c : tie.After-reached) → let l = circle-left c .before .before .levels .result .level in let n = file-left c .before .read-file .result .jobs in
-    c .reached .result ≡ reachEach (takersIn (tables (file-left c .before))) (fromTop (table (levelSet l n)) 66) (replicate 64 0)
+reach-is : (c : tie.After-reached) →
+    let l = behind-circles c .before .before .levels .result .level in
+    let n = behind-reading c .before .read-file .result .jobs in
+    c .reached .result ≡ reachEach (takersIn (tables (behind-reading c .before))) (fromTop (table (levelSet l n)) 66) (replicate 64 0)
 reach-is c = rw (c .before .before .before .before .by-level .ensures) at (c .reached .ensures)
 
 returns : tie.Need-returns
@@ -64,22 +66,25 @@ returns-2 c =
     let a = c .before .before .before .before .before .before .before .args in
     file-refused (a .file .now) (a .list .now) (omega arith) _ _ _ _ (c .before .read-file .ensures .0) (c .if2 .taken)
 
-array-share-prefix-tables : tie.Need-array-share-prefix-tables
-array-share-prefix-tables c = omega (arith, long (c .before))
+sub-levels : tie.Need-sub-levels
+sub-levels c = search needs
 
-slice-aggregate-levels : tie.Need-slice-aggregate-levels
-slice-aggregate-levels c = sym (givers-long (c .before .before))
+part-levels-start : tie.Need-part-levels-start
+part-levels-start c = search needs
+
+part-levels-end : tie.Need-part-levels-end
+part-levels-end c = omega (arith, long (c .before .before))
 
 levels-requires : tie.Need-levels-requires
-levels-requires c κs = (jobs-few (is-read (c .before)), omega (arith, givers-long (c .before .before)))
+levels-requires c κs = (jobs-few (is-read (c .before .before)), omega (arith, givers-long (c .before .before .before)))
 
 returns-3 : tie.Need-returns-3
 returns-3 c =
     let levels = c .before .before .levels in
-    circle (is-read (c .before .before .before .before)) (levels .result) (levels .ensures) (not-true _ (c .if3 .taken))
+    circle (is-read (c .before .before .before .before .before)) (levels .result) (levels .ensures) (not-true _ (c .if3 .taken))
 
 by-level-requires : tie.Need-by-level-requires
-by-level-requires c κs = jobs-few (is-read (c .before .before .before .before .before .before))
+by-level-requires c κs = jobs-few (is-read (c .before .before .before .before .before .before .before))
 
 sub-reached : tie.Need-sub-reached
 sub-reached c = search needs
@@ -88,10 +93,10 @@ part-reached-start : tie.Need-part-reached-start
 part-reached-start c = search needs
 
 part-reached-end : tie.Need-part-reached-end
-part-reached-end c = omega (arith, long (c .before .before .before .before .before .before .before .before .before))
+part-reached-end c = omega (arith, long (c .before .before .before .before .before .before .before .before .before .before))
 
 reached-requires : tie.Need-reached-requires
-reached-requires c κs = omega (arith, takers-long (c .before .before .before .before .before .before .before .before .before .before .before))
+reached-requires c κs = omega (arith, takers-long (c .before .before .before .before .before .before .before .before .before .before .before .before))
 
 sub-put-rows : tie.Need-sub-put-rows
 sub-put-rows c = search needs
@@ -100,14 +105,15 @@ part-put-rows-start : tie.Need-part-put-rows-start
 part-put-rows-start c = search needs
 
 part-put-rows-end : tie.Need-part-put-rows-end
-part-put-rows-end c = omega (arith, long (c .before .before .before .before .before .before .before .before .before .before .before .before .before))
+part-put-rows-end c = omega (arith, long (c .before .before .before .before .before .before .before .before .before .before .before .before .before .before))
 
 put-rows-requires : tie.Need-put-rows-requires
 put-rows-requires c κs =
     let s = c .before .before .before .before in
-    let r = is-read (file-left s) in
-    let levels = circle-left s .before .before .levels in
-    (jobs-few r, omega (arith, takers-long (file-left s .before)), rw (reach-is s) (rows-fit r (levels .result) (levels .ensures) (is-free (circle-left s))))
+    let r = is-read (behind-reading s) in
+    let levels = behind-circles s .before .before .levels in
+    let fit = rows-fit r (levels .result) (levels .ensures) (is-free (behind-circles s)) in
+    (jobs-few r, omega (arith, takers-long (behind-reading s .before)), rw (reach-is s) fit)
 
 same-length : tie.Need-same-length
 same-length c = search needs
@@ -116,8 +122,8 @@ returns-4 : tie.Need-returns-4
 returns-4 c =
     let s = c .before .before .before .before .before .before .before in
     let p = c .before .before .put-rows in
-    let levels = circle-left s .before .before .levels in
-    rw (p .ensures .0, p .ensures .1, reach-is s) (all-listed (is-read (file-left s)) (levels .result) (levels .ensures) (is-free (circle-left s)))
+    let levels = behind-circles s .before .before .levels in
+    rw (p .ensures .0, p .ensures .1, reach-is s) (all-listed (is-read (behind-reading s)) (levels .result) (levels .ensures) (is-free (behind-circles s)))
 
 pub implied-needs-spec : {M : Type 1} → statement M
 implied-needs-spec =
@@ -126,8 +132,9 @@ implied-needs-spec =
     returns
     read-file-requires
     returns-2
-    array-share-prefix-tables
-    slice-aggregate-levels
+    sub-levels
+    part-levels-start
+    part-levels-end
     levels-requires
     returns-3
     by-level-requires

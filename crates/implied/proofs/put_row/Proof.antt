@@ -3,7 +3,7 @@ use mathlib.Core.Path.{_≡_, sym, _∙_}
 use mathlib.Core.Bool.{true}
 use Prim.Native.Nat.{_+_, _-_, _≤_}
 use native.Mathlib.Omega.{arith}
-use lib.ListN.{length, length-set}
+use lib.ListN.{length}
 use Rattle.jobset.specs.Sets.{member}
 use Rattle.implied.specs.ListingLaws.{RowSoFar, row-start, row-room, row-put, row-skip, row-size, row-end}
 use Rattle.implied.proofs.put_row.Statement.{statement}
@@ -35,40 +35,20 @@ sub-has c = omega arith
 has-requires : tie.Need-has-requires Inv-loop μ-loop
 has-requires c κs = omega arith
 
-add-list : tie.Need-add-list Inv-loop μ-loop
-add-list c = omega arith
-
-cast-list : tie.Need-cast-list Inv-loop μ-loop
-cast-list c = omega arith
-
-mul-list : tie.Need-mul-list Inv-loop μ-loop
-mul-list c = let r = room c in omega arith
-
-slice-write-list : tie.Need-slice-write-list Inv-loop μ-loop
-slice-write-list c = let r = room c in omega arith
-
-cast-list-2 : tie.Need-cast-list-2 Inv-loop μ-loop
-cast-list-2 c = omega arith
-
-add-list-2 : tie.Need-add-list-2 Inv-loop μ-loop
-add-list-2 c = let r = room c in omega arith
-
-mul-list-2 : tie.Need-mul-list-2 Inv-loop μ-loop
-mul-list-2 c = let r = room c in omega arith
-
-slice-write-list-2 : tie.Need-slice-write-list-2 Inv-loop μ-loop
-slice-write-list-2 c =
-    let l = c .before .before .before .loop in
-    omega (arith, room c, length-set (l .list) (l .next) (c .before .before .before .before .before .args .giver + 1))
+put-pair-requires : tie.Need-put-pair-requires Inv-loop μ-loop
+put-pair-requires c κs = (omega arith, omega arith, room (c .before))
 
 add-next : tie.Need-add-next Inv-loop μ-loop
-add-next c = let r = room c in omega arith
+add-next c = let h = room (c .before .before .before .before) in omega arith
 
 loop-less : tie.Need-loop-less Inv-loop μ-loop
 loop-less c = omega arith
 
 loop-again : tie.Need-loop-again Inv-loop μ-loop
-loop-again c = row-put (c .before .before .before .loop .inv) (c .before .before .loop-test .taken) (taken c)
+loop-again c =
+    let l = c .before .before .before .before .before .before .before .loop in
+    let p = c .before .before .put-pair in
+    row-put (l .inv) (c .before .before .before .before .before .before .loop-test .taken) (taken (c .before .before .before .before)) _ (p .ensures)
 
 loop-less-2 : tie.Need-loop-less-2 Inv-loop μ-loop
 loop-less-2 c = omega arith
@@ -92,14 +72,7 @@ put-row-spec =
     add-k
     sub-has
     has-requires
-    add-list
-    cast-list
-    mul-list
-    slice-write-list
-    cast-list-2
-    add-list-2
-    mul-list-2
-    slice-write-list-2
+    put-pair-requires
     add-next
     loop-less
     loop-again

@@ -40,10 +40,10 @@ loop-less c = omega arith
 
 loop-again : tie.Need-loop-again Inv-loop μ-loop
 loop-again c =
-    let row = c .before .before .before .before .implied-takers .ensures in
-    let p = c .before .before .put-row in
     let l = c .before .before .before .before .before .before .before .loop in
-    rows-put (l .inv) (c .before .before .before .before .before .before .loop-test .taken) (p .result) _ (rw row at (p .ensures .0)) (rw row at (p .ensures .1))
+    let p = c .before .before .put-row in
+    let w = rw (c .before .before .before .before .implied-takers .ensures) at (p .ensures) in
+    rows-put (l .inv) (c .before .before .before .before .before .before .loop-test .taken) (p .result) _ (w .0) (w .1)
 
 same-length : tie.Need-same-length Inv-loop μ-loop
 same-length c = c .before .loop .inv .size

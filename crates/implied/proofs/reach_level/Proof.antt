@@ -5,7 +5,9 @@ use Prim.Native.Nat.{ℕ, _^_, _<_}
 use native.Mathlib.Omega.{arith}
 use borrow.Author.Needs.{needs}
 use Rattle.jobset.specs.Members.{Turn, turn, end}
-use Rattle.jobset.specs.Sets.{members}
+use lib.ListN.{set}
+use Rattle.jobset.specs.declared.Set.{Set}
+use Rattle.jobset.specs.Sets.{setAt, union, without, members}
 use Rattle.implied.specs.Reach.{reachEach}
 use Rattle.implied.proofs.reach_level.Statement.{statement}
 use Rattle.implied.proofs.reach_level.Tie as tie
@@ -63,11 +65,13 @@ loop-again : tie.Need-loop-again Inv-loop μ-loop
 unfolding reachEach
 loop-again c =
     let l = c .before .before .before .before .before .before .before .before .loop in
-    let takers = c .before .before .before .before .before .before .before .before .before .before .args .takers .now in
-    let u = turned (c .before .before .before .before .before) in (
+    let a = c .before .before .before .before .before .before .before .before .before .before .args in
+    let u = turned (c .before .before .before .before .before) in
+    let p = c .before .before .before .before .before .lowest .result in
+    let all = c .before .union .ensures ∙ ap (union (setAt (a .takers .now) p)) (c .before .before .beyond .ensures) in (
       search needs,
-      rw (c .rest .ensures, u .rest-is, c .before .union .ensures, c .before .before .beyond .ensures)
-          (ap (λ (ps : List ℕ). reachEach takers ps (l .reach)) (sym (u .first)) ∙ l .inv .1),
+      rw (c .rest .ensures, u .rest-is) (ap (λ (s : Set). reachEach (a .takers .now) (members (without (l .rest) p)) (set (l .reach) p (s .bits))) all
+          ∙ ap (λ (ps : List ℕ). reachEach (a .takers .now) ps (l .reach)) (sym (u .first)) ∙ l .inv .1),
     )
 
 returns : tie.Need-returns Inv-loop μ-loop
