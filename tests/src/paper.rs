@@ -44,7 +44,7 @@ pub fn run(tester: &mut Tester) {
     for (name, file, listed) in implied_cases() {
         let found = printed_needs(&implied_needs(&file));
         let verdict = if found == listed { Ok(()) } else { Err(found) };
-        tester.report.case("named: needs that follow", verdict, || name.to_string());
+        tester.report.case("named: the reference's list", verdict, || name.to_string());
     }
     printed_example(tester);
     checked(tester);
@@ -347,7 +347,7 @@ fn checks(tester: &mut Tester, name: &str, file: &[u8], table: &[u8], answer: Pa
     tester.label = name.to_string();
     let found = tester.check("named: check", file, table);
     let verdict = if found == answer { Ok(()) } else { Err(format!("{found:?}")) };
-    tester.report.case("named: the reference's answer", verdict, || format!("{name}, table {}", shown(table)));
+    tester.report.case("named: the library's answer", verdict, || format!("{name}, table {}", shown(table)));
 }
 
 /// Tables by the starts and boards of their rows, their counts made to fit, and what the lookup says of one place.

@@ -11,7 +11,7 @@ use crate::reference::text::{printed, printed_needs};
 use crate::report::shown;
 use crate::stage::Verdict;
 use crate::tester::Tester;
-use std::io::{Result, Write};
+use std::io::{Error, Result, Write};
 use std::process::{Command, Stdio};
 
 /// The planning program.
@@ -20,7 +20,7 @@ pub fn plan(tester: &mut Tester, program: &str, seed: u64, count: u64) {
         let mut random = Random::new(seed ^ 0x706c_616e, index);
         let draft = Draft::sound(&mut random, 64);
         tester.label = format!("seed {seed} program file {index}");
-        let file = sound_or_damaged(&mut random, &draft);
+        let file = varied_bytes(&mut random, &draft);
         let expected = printed(&entries::plan(&file, usize::MAX, usize::MAX));
         prints(tester, "program plan", program, &file, &expected);
     }
@@ -45,7 +45,7 @@ pub fn implied_needs(tester: &mut Tester, program: &str, most: u8, seed: u64, co
             grown::close_circle(&mut random, &mut draft);
         }
         tester.label = format!("seed {seed} program file {index}");
-        let file = sound_or_damaged(&mut random, &draft);
+        let file = varied_bytes(&mut random, &draft);
         lists(tester, "program implied_needs: grown files", program, &file);
     }
 }
@@ -78,10 +78,10 @@ fn same(found: &str, expected: &str) -> Verdict {
     }
 }
 
-/// The draft's bytes, now and then damaged or filled up to the longest file that is read, or one byte more.
-fn sound_or_damaged(random: &mut Random, draft: &Draft) -> Vec<u8> {
+/// The draft's bytes, now and then damaged or filled up to the longest file that is read, or beyond.
+fn varied_bytes(random: &mut Random, draft: &Draft) -> Vec<u8> {
     let mut file = draft.mixed_bytes(random);
-    let length = LONGEST_FILE + random.below(2);
+    let length = random.pick(&[LONGEST_FILE, LONGEST_FILE, LONGEST_FILE + 1, 20_000, 70_000]);
     match random.below(8) {
         0 => damage::bytes(random, &mut file),
         1 => file = damage::fields(random, draft),
@@ -91,11 +91,17 @@ fn sound_or_damaged(random: &mut Random, draft: &Draft) -> Vec<u8> {
     file
 }
 
-/// What the program writes. It may leave a file that is too long unread, so a failed write is no error.
+/// What the program writes; it must end by itself, with success. It may leave a file that is too long unread, so a failed
+/// write is no error.
 fn output(program: &str, file: &[u8]) -> Result<Vec<u8>> {
     let mut child = Command::new(program).stdin(Stdio::piped()).stdout(Stdio::piped()).spawn()?;
     if let Some(mut input) = child.stdin.take() {
         let _ = input.write_all(file);
     }
-    Ok(child.wait_with_output()?.stdout)
+    let ended = child.wait_with_output()?;
+    if ended.status.success() {
+        Ok(ended.stdout)
+    } else {
+        Err(Error::other(ended.status.to_string()))
+    }
 }

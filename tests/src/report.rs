@@ -28,7 +28,7 @@ impl Report {
         }
     }
 
-    /// Counts an answer that document 01 gives, so that one can see what was tried.
+    /// Counts an answer, so that one can see what was tried.
     pub fn answer(&mut self, entry: &str, answer: String) {
         self.count(format!("{entry}: {answer}"), 1);
     }

@@ -43,14 +43,14 @@ impl Tester {
         answered
     }
 
-    /// Checks a table for a file; answers what document 01 says.
+    /// Checks a table for a file; gives what the library answered.
     pub fn check(&mut self, group: &'static str, file: &[u8], table: &[u8]) -> Result<(), u8> {
-        let (expected, verdict) = self.stage.check(&mut self.random, file, table);
-        let answer = expected.map_or_else(|number| format!("refused {number:>2}"), |()| "passes".to_string());
+        let (answered, verdict) = self.stage.check(&mut self.random, file, table);
+        let answer = answered.map_or_else(|number| format!("refused {number:>2}"), |()| "passes".to_string());
         self.report.answer("check", answer);
         let label = &self.label;
         self.report.case(group, verdict, || format!("{label}, file {}, table {}", shown(file), shown(table)));
-        expected
+        answered
     }
 
     /// Looks up slots and boards around the table's edges.

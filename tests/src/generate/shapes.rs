@@ -1,4 +1,5 @@
-//! Shapes of needs without a circle. Jobs are counted from 0, and numbered anew at the end.
+//! Shapes of needs without a circle. Jobs are counted from 0, and numbered anew at the end. All needs between a few jobs,
+//! circles among them, are counted from 1.
 
 use super::random::Random;
 

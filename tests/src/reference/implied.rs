@@ -13,8 +13,8 @@ pub fn implied_needs(file: &[u8]) -> Result<Vec<Need>, u8> {
     Ok(by_closure(&sound_graph(&read(file)?)?))
 }
 
-/// Those of which a taker of the giver reaches the taker. Only for needs without a circle, so that no such path comes
-/// back to the giver.
+/// The needs whose giver has a taker that reaches their taker. Only for needs without a circle, so that no such path
+/// comes back to the giver.
 fn by_closure(graph: &Graph) -> Vec<Need> {
     let closure = graph.closure();
     let follows = |giver: usize, taker: usize| graph.takers[giver].iter().any(|&next| closure[next] >> taker & 1 == 1);
@@ -38,7 +38,7 @@ pub fn by_search(jobs: usize, needs: &[Need]) -> Vec<Need> {
     found
 }
 
-/// Does a path of one or more needs other than this one lead from a job to its taker? Depth first, past the jobs seen.
+/// Does a path of one or more needs other than this one lead from a job to this one's taker? Depth first, past the jobs seen.
 fn reaches(graph: &Graph, need: Need, from: usize, seen: &mut [bool]) -> bool {
     let fresh = !std::mem::replace(&mut seen[from], true);
     fresh && others(graph, need, from).any(|next| next == need.1 || reaches(graph, need, next, seen))
