@@ -1,5 +1,5 @@
 -- Needs that follow from others (document 02, request 5), by computing, of files in bytes: the request's own three needs; a path through a need that is listed
--- itself; a need beside paths of one need; and what is left when the listed ones are struck. Assumes nothing.
+-- itself; needs with no such path beside them; and what is left when the listed ones are struck. Assumes nothing.
 use mathlib.Core.Path.{_≡_, refl}
 use mathlib.Core.List.{List, [], _∷_}
 use Prim.Native.Nat.{ℕ}
@@ -16,11 +16,11 @@ unfolding fileBytes fileQuestions circleQuestion impliedIn impliedNeeds impliedF
 listQuestions = impliedIn
 
 -- the three needs of the request, the last between the others, of three jobs
-abbrev shortcut : List ℕ
-shortcut = fileOf 3 ((1, 2) ∷ (1, 3) ∷ (2, 3) ∷ []) 3
+abbrev threeNeeds : List ℕ
+threeNeeds = fileOf 3 ((1, 2) ∷ (1, 3) ∷ (2, 3) ∷ []) 3
 
 -- "1-2, 2-3 and also 1-3": 1-3 is listed
-pub one-listed : impliedIn shortcut ≡ got ((0, 2) ∷ [])
+pub one-listed : impliedIn threeNeeds ≡ got ((0, 2) ∷ [])
 unfolding listQuestions
 one-listed = refl
 
@@ -30,7 +30,7 @@ unfolding pairNumbers
 one-printed = refl
 
 -- struck, it leaves the bytes of the file with the other two
-pub one-struck : strike ((0, 2) ∷ []) shortcut ≡ fileOf 3 ((1, 2) ∷ (2, 3) ∷ []) 3
+pub one-struck : strike ((0, 2) ∷ []) threeNeeds ≡ fileOf 3 ((1, 2) ∷ (2, 3) ∷ []) 3
 unfolding fileBytes fileQuestions strike needAt fieldsBut
 one-struck = refl
 

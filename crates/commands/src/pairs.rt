@@ -16,12 +16,12 @@ pub(crate) fn first(list: &[u16], count: usize) -> &[u16]
 
 // All pairs of a list.
 pub(crate) fn print(list: &[u16]) {
-    let mut taker = 1;
-    while taker < list.len() {
-        io::print_decimal(STDOUT_FILENO, list[taker - 1] as u64);
+    let mut second = 1;
+    while second < list.len() {
+        io::print_decimal(STDOUT_FILENO, list[second - 1] as u64);
         io::write_all(STDOUT_FILENO, b" ");
-        io::print_decimal(STDOUT_FILENO, list[taker] as u64);
+        io::print_decimal(STDOUT_FILENO, list[second] as u64);
         io::write_all(STDOUT_FILENO, b"\n");
-        taker += 2;
+        second += 2;
     }
 }

@@ -39,10 +39,12 @@ use Rattle.implied.specs.ListingLaws.{put-front}
 -- ---- the rows are the rules' list
 
 module _ {n : ℕ} {needs : List Need} {takers : List ℕ} (t : Takers n needs takers) (reach : List ℕ) (right : (i : ℕ) → i < n → Right n needs reach i) where
+  -- the takers of one giver
   row-is : (g : ℕ) → g < n → takersOf (impliedSet (setAt takers (63 - g)) reach) n 0 ≡ impliedTakers n needs g
   unfolding takersOf impliedTakers
   row-is g h = filter-same _ _ (range n 0) (λ k m. implied-member t reach right g k h (range-below n k .0 m))
 
+  -- the pairs of some givers, and of all
   rows-from : (c g : ℕ) → g + c ≤ n → rowsNumbers takers reach n c g ≡ pairNumbers (impliedFrom n needs c g)
   unfolding rowsNumbers impliedFrom rowNumbers pairNumbers
   rows-from zero g h = refl
@@ -67,6 +69,7 @@ module _ (file list : List ℕ) (room : pairsSize ≤ length list) where
   unfolding listImplied
   leads r e = choose-yes (leb pairsSize (length list)) _ _ (T-leb pairsSize (length list) .1 room) ∙ ap (λ (x : Answer (List Need)). listed x list) e
 
+  -- a refusal by question q
   refused-by : (q : ℕ) → impliedIn file ≡ refused q → listingOf (Refused q) list ≡ listImplied file list
   unfolding listed listingOf
   refused-by q e = sym (leads (refused q) e)
@@ -93,15 +96,18 @@ module _ {file list : List ℕ} {F : Counts} {offsets givers takers : List ℕ} 
   file-got : (f : JobFile) × (readFile file ≡ got f)
   file-got = read-got file (sym (r .reads .number-is) ∙ r .ok)
 
+  -- how many jobs it has, and its needs
   abbrev n : ℕ
   n = F .jobs
 
   needs : List Need
   needs = file-got .0 .needs
 
+  -- what the reader holds of it
   held : Held file (file-got .0) (stateOf F offsets givers takers)
   held = r .reads .held (file-got .0) (file-got .1)
 
+  -- so there are at most 64 jobs, and the needs are between them
   pub jobs-few : n ≤ 64
   jobs-few = held .few
 
@@ -112,6 +118,7 @@ module _ {file list : List ℕ} {F : Counts} {offsets givers takers : List ℕ} 
       (omega (arith, w .0, held .jobs-is), omega (arith, w .1, held .jobs-is))
 
   module _ (levels : JobLevels) (levels-are : (needs : List Need) → NeedsIn n needs → GiversAre givers needs → levels ≡ levelsOf n needs) where
+    -- the levels are those of its needs, and say whether there is a circle
     levels-is : levels ≡ levelsOf n needs
     unfolding needs
     levels-is = levels-are (file-got .0 .needs) file-needs (held .givers-are)
@@ -119,6 +126,7 @@ module _ {file list : List ℕ} {F : Counts} {offsets givers takers : List ℕ} 
     free : circleFree n needs ≡ levels .ok
     free = sym (levels-ok n needs) ∙ sym (ap (λ (l : JobLevels). l .ok) levels-is)
 
+    -- what is left to ask
     asked : impliedIn file ≡ ask (levels .ok) 11 (got (impliedNeeds n needs))
     unfolding impliedIn after needs
     asked = rw (file-got .1) (rw (← (held .jobs-is)) (rw free refl))
@@ -129,6 +137,7 @@ module _ {file list : List ℕ} {F : Counts} {offsets givers takers : List ℕ} 
     circle e = refused-by file list (r .room) 11 (asked ∙ rw e refl)
 
     module _ (no-circle : levels .ok ≡ true) where
+      -- the reader's takers are those of the needs
       takers-are : Takers n needs takers
       unfolding needs
       takers-are = record {
@@ -145,6 +154,7 @@ module _ {file list : List ℕ} {F : Counts} {offsets givers takers : List ℕ} 
       abbrev rows : List ℕ
       rows = rowsNumbers takers reach n n 0
 
+      -- they are the rules' list, and there is room for them
       rows-is : rows ≡ pairNumbers (impliedNeeds n needs)
       rows-is = rows-are takers-are reach (λ i h. rw levels-is (all-right takers-are i h))
 
@@ -164,15 +174,15 @@ module _ {file list : List ℕ} {F : Counts} {offsets givers takers : List ℕ} 
       all-listed =
           let ds = impliedNeeds n needs in
           let half : length rows / 2 ≡ length ds = omega (arith, ap length rows-is, pairs-length ds) in
-          ap₂ (λ (k : ℕ) (l : List ℕ). record { number = 0; pairs = k; list = l }) half (put-front rows list rows-fit ∙ rw rows-is refl)
+          ap₂ (λ (k : ℕ) (l : List ℕ). record { answer = got k; list = l }) half (put-front rows list rows-fit ∙ rw rows-is refl)
           ∙ sym (leads file list (r .room) (got ds) (asked ∙ rw no-circle refl))
 
 -- ---- the number
 
 -- none is greater than 11, but 21
 pub listed-most : (file list after : List ℕ) (l : Listed) → listingOf l after ≡ listImplied file list → (listedNumber l ≤ 11) ⊎ (listedNumber l ≡ 21)
-listed-most file list after l e = rw (number l ∙ ap (λ (x : Listing). x .number) e) (implied-most file list)
+listed-most file list after l e = rw (number l ∙ ap (λ (x : Listing). numberOf (x .answer)) e) (implied-most file list)
   where
-    number : (l : Listed) → listedNumber l ≡ listingOf l after .number
-    number (Pairs n) = unfold listedNumber listingOf in refl
-    number (Refused q) = unfold listedNumber listingOf in refl
+    number : (l : Listed) → listedNumber l ≡ numberOf (listingOf l after .answer)
+    number (Pairs n) = unfold listedNumber listingOf numberOf in refl
+    number (Refused q) = unfold listedNumber listingOf numberOf in refl

@@ -3,6 +3,7 @@ use mathlib.Core.List.{List, [], _∷_, _++_, map}
 use Prim.Native.Nat.{ℕ, zero, suc, _+_, _-_}
 use lib.ListN.{set}
 use Rattle.rules.specs.Basics.{filter, range}
+use Rattle.rules.specs.Fields.{refused, got}
 use Rattle.rules.specs.Implied.{Listing, pairNumbers}
 use Rattle.jobset.specs.declared.Set.{Set}
 use Rattle.jobset.specs.Sets.{member, setAt}
@@ -31,8 +32,8 @@ rowsNumbers takers reach n (suc c) g =
 
 -- an answer, with the list that it leaves
 unfoldable pub listingOf : Listed → List ℕ → Listing
-listingOf (Pairs n) list = record { number = 0; pairs = n; list = list }
-listingOf (Refused q) list = record { number = q; pairs = 0; list = list }
+listingOf (Pairs n) list = record { answer = got n; list = list }
+listingOf (Refused q) list = record { answer = refused q; list = list }
 
 -- the number of each answer: 0 for a list
 unfoldable pub listedNumber : Listed → ℕ

@@ -16,13 +16,14 @@ use Rattle.implied.specs.Listing.{put, takersOf, rowNumbers, rowsNumbers
 
 -- ---- writing
 
-pub length-put : (i : ℕ) (xs l : List ℕ) → length (put i xs l) ≡ length l
+-- nothing is lost or added
+length-put : (i : ℕ) (xs l : List ℕ) → length (put i xs l) ≡ length l
 unfolding put
 length-put i [] l = refl
 length-put i (x ∷ xs) l = length-put (i + 1) xs (set l i x) ∙ length-set l i x
 
 -- first the one part, then the other
-pub put-append : (i : ℕ) (xs ys l : List ℕ) → put i (xs ++ ys) l ≡ put (i + length xs) ys (put i xs l)
+put-append : (i : ℕ) (xs ys l : List ℕ) → put i (xs ++ ys) l ≡ put (i + length xs) ys (put i xs l)
 unfolding put
 put-append i [] ys l = ap (λ (j : ℕ). put j ys l) (omega arith)
 put-append i (x ∷ xs) ys l = put-append (i + 1) xs ys (set l i x) ∙ ap (λ (j : ℕ). put j ys (put (i + 1) xs (set l i x))) (omega arith)
@@ -51,6 +52,7 @@ abbrev rowFrom : ℕ → Set → ℕ → ℕ → List ℕ
 rowFrom g s n k = rowNumbers g (takersOf s (n - k) k)
 
 module _ (g : ℕ) (s : Set) (n k : ℕ) (h : k < n) where
+  -- the takers from k up: k or not, and those behind it
   takers-step : takersOf s (n - k) k ≡ choose (member s (63 - k)) (k ∷ takersOf s (n - (k + 1)) (k + 1)) (takersOf s (n - (k + 1)) (k + 1))
   takers-step =
       let e : n - k ≡ suc (n - (k + 1)) = omega arith in
@@ -136,13 +138,14 @@ module _ (takers reach : List ℕ) (n : ℕ) where
   abbrev rowsFrom : ℕ → List ℕ
   rowsFrom g = rowsNumbers takers reach n (n - g) g
 
+  -- those of g, and of the givers behind it
   rows-step : (g : ℕ) → g < n → rowsFrom g ≡ rowOf g ++ rowsFrom (g + 1)
   unfolding rowsNumbers
   rows-step g h =
       let e : n - g ≡ suc (n - (g + 1)) = omega arith in
       ap (λ (c : ℕ). rowsNumbers takers reach n c g) e ∙ ap (λ (j : ℕ). rowOf g ++ rowsNumbers takers reach n (n - (g + 1)) j) (sym (add-one g))
 
-  -- the loop over the givers: those from g up are to come, from entry `count` on
+  -- the loop over the givers: those from g up are to come, from entry `next` on
   pub record RowsSoFar (list₀ : List ℕ) (g count : ℕ) (list : List ℕ) : Type 0 where
     pub short : g ≤ n
     pub size : length list ≡ length list₀

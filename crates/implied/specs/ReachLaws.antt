@@ -66,7 +66,7 @@ in-beyond reach takers q = (
     none m = let z : T (member empty q) = T-true (member empty q) .1 m in rw (member-empty q) at z
 
 -- some jobs, and then others
-pub reach-append : (takers ps qs reach : List ℕ) → reachEach takers (ps ++ qs) reach ≡ reachEach takers qs (reachEach takers ps reach)
+reach-append : (takers ps qs reach : List ℕ) → reachEach takers (ps ++ qs) reach ≡ reachEach takers qs (reachEach takers ps reach)
 unfolding reachEach
 reach-append takers [] qs reach = refl
 reach-append takers (p ∷ ps) qs reach = reach-append takers ps qs (set reach p (reachOf takers reach p .bits))
@@ -110,7 +110,7 @@ module _ {n : ℕ} {needs : List Need} {takers : List ℕ} (t : Takers n needs t
 
   module _ (reach : List ℕ) (g : ℕ) (h : g < n) (right : (b : ℕ) → Gives needs g b → Right n needs reach b) where
     -- what the takers of g reach is at the end of a chain of two needs or more
-    pub beyond-is : (k : ℕ) → k < n → member (beyond reach (setAt takers (63 - g))) (63 - k) ≡ impliedb n needs (g, k)
+    beyond-is : (k : ℕ) → k < n → member (beyond reach (setAt takers (63 - g))) (63 - k) ≡ impliedb n needs (g, k)
     beyond-is k l = bool-ext _ _
         (λ m.
         let (p, a, i, w) = in-beyond reach (setAt takers (63 - g)) (63 - k) .0 m in

@@ -79,13 +79,13 @@ fn put_pair(giver: usize, taker: usize, list: &mut [u16], at: usize)
     list[at + 1] = (taker + 1) as u16;
 }
 
-// The pairs of a giver with each of these takers, in rising order, from entry `count` of the list on; gives the entry behind them.
-fn put_row(giver: usize, takers: Set, jobs: usize, list: &mut [u16], count: usize) -> usize
-    requires { ⌜ (jobs ≤ 64) × (giver < 64) × (count + length (rowNumbers giver (takersOf takers jobs 0)) ≤ length (now list)) ⌝ }
-    ensures size { λ r. ⌜ r ≡ count + length (rowNumbers giver (takersOf takers jobs 0)) ⌝ }
-    ensures entries { λ _. ⌜ now (list .exit) ≡ put count (rowNumbers giver (takersOf takers jobs 0)) (now (list .entry)) ⌝ }
+// The pairs of a giver with each of these takers, in rising order, from entry `first` of the list on; gives the entry behind them.
+fn put_row(giver: usize, takers: Set, jobs: usize, list: &mut [u16], first: usize) -> usize
+    requires { ⌜ (jobs ≤ 64) × (giver < 64) × (first + length (rowNumbers giver (takersOf takers jobs 0)) ≤ length (now list)) ⌝ }
+    ensures size { λ r. ⌜ r ≡ first + length (rowNumbers giver (takersOf takers jobs 0)) ⌝ }
+    ensures entries { λ _. ⌜ now (list .exit) ≡ put first (rowNumbers giver (takersOf takers jobs 0)) (now (list .entry)) ⌝ }
 {
-    let mut next = count;
+    let mut next = first;
     let mut k = 0;
     while k < jobs {
         let taker = k;
@@ -104,17 +104,17 @@ fn put_rows(takers: &[u64], reach: &[u64; 64], jobs: usize, list: &mut [u16]) ->
     ensures size { λ r. ⌜ r ≡ length (rowsNumbers (now (takers .entry)) (now (reach .entry)) jobs jobs 0) ⌝ }
     ensures entries { λ _. ⌜ now (list .exit) ≡ put 0 (rowsNumbers (now (takers .entry)) (now (reach .entry)) jobs jobs 0) (now (list .entry)) ⌝ }
 {
-    let mut count = 0;
+    let mut next = 0;
     let mut giver = 0;
     while giver < jobs {
         let all = Set {
             bits: takers[63 - giver],
         };
         let row = implied_takers(all, reach);
-        count = put_row(giver, row, jobs, list, count);
+        next = put_row(giver, row, jobs, list, next);
         giver += 1;
     }
-    count
+    next
 }
 
 // The needs of a job file that follow from others: giver and taker of each, as the file numbers them, one pair behind the other from the

@@ -53,7 +53,7 @@ module _ (out : ℕ → Bool) (bs : List ℕ) where
       bytes-join (part bs a (fieldEnd bs a)) _ (bytes-take (fieldEnd bs a - a) (drop a bs) (bytes-drop a bs bytes)) rest)) (λ _. tt)
 
   -- there are no more of them than before
-  pub fieldsBut-length : (k a : ℕ) → length (fieldsBut out k bs a) ≤ length bs - a
+  fieldsBut-length : (k a : ℕ) → length (fieldsBut out k bs a) ≤ length bs - a
   unfolding fieldsBut part
   fieldsBut-length zero a = omega arith
   fieldsBut-length (suc k) a =
@@ -71,7 +71,7 @@ module _ (out : ℕ → Bool) (bs : List ℕ) (bytes : Bytes bs) (R : JobFile �
     (kept : (s t u : JobFile) (a : ℕ) → (T (out a) → ⊥) → R s t → askField s (at bs a) (value bs a) ≡ got u
     → GotBeside R u (askField t (at bs a) (value bs a))) where
   -- where each field that is left out and each that is kept keep R between them, so do all
-  pub fieldsBut-beside : (k a : ℕ) (s t u : JobFile) → R s t → overFields (readField bs) k bs a s ≡ got u → GotBeside R u (readFrom (fieldsBut out k bs a) 0 t)
+  fieldsBut-beside : (k a : ℕ) (s t u : JobFile) → R s t → overFields (readField bs) k bs a s ≡ got u → GotBeside R u (readFrom (fieldsBut out k bs a) 0 t)
   unfolding overFields fieldsBut choose readField
   fieldsBut-beside zero a s t u r e = got-beside R s t r e
   fieldsBut-beside (suc k) a s t u r e = go (ltb a (length bs)) e (λ x y. fieldsBut-beside k (fieldEnd bs a) x y u)

@@ -36,14 +36,15 @@ pub join : (needs : List Need) (a b c : ℕ) → Chain needs a b → Chain needs
 join needs _ _ c (one a b m) r = more a b c m r
 join needs _ _ c (more a d b m q) r = more a d c m (join needs d b c q r)
 
--- the last need of a chain
-pub last-need : (needs : List Need) (a c : ℕ) → Chain needs a c → Gives needs a c ⊎ ((h : ℕ) × Chain needs a h × Gives needs h c)
-last-need needs _ _ (one a c m) = inl m
-last-need needs _ _ (more a b c m r) =
-    ⊎-elim (λ w. inr (b, one a b m, w)) (λ w. inr (w .0, more a b (w .0) m (w .1), w .2)) (last-need needs b c r)
-
+-- the last need of a chain of two needs or more, and the chain before it
 pub far-last : (needs : List Need) (g k : ℕ) → Far needs g k → (h : ℕ) × Chain needs g h × Gives needs h k
-far-last needs g k (b, m, r) = ⊎-elim (λ w. (b, one g b m, w)) (λ w. (w .0, more g b (w .0) m (w .1), w .2)) (last-need needs b k r)
+far-last needs g k (b, m, one _ _ w) = (b, one g b m, w)
+far-last needs g k (b, m, more _ c _ w r) = let (h, q, l) = far-last needs b k (c, w, r) in (h, more g b h m q, l)
+
+-- the last need of any chain
+last-need : (needs : List Need) (a c : ℕ) → Chain needs a c → Gives needs a c ⊎ ((h : ℕ) × Chain needs a h × Gives needs h c)
+last-need needs _ _ (one a c m) = inl m
+last-need needs _ _ (more a b c m r) = inr (far-last needs a c (b, m, r))
 
 -- a chain of needs that are all among others is one of those
 pub chain-within : (ds es : List Need) → ((g k : ℕ) → Gives ds g k → Gives es g k) → (a b : ℕ) → Chain ds a b → Chain es a b
@@ -51,17 +52,32 @@ chain-within ds es h _ _ (one a b m) = one a b (h a b m)
 chain-within ds es h _ _ (more a b c m r) = more a b c (h a b m) (chain-within ds es h b c r)
 
 -- a chain ends with a job
-pub end-in : (n : ℕ) (needs : List Need) → NeedsIn n needs → (a b : ℕ) → Chain needs a b → b < n
+end-in : (n : ℕ) (needs : List Need) → NeedsIn n needs → (a b : ℕ) → Chain needs a b → b < n
 end-in n needs needs-in _ _ (one a b m) = needs-in a b m .1
 end-in n needs needs-in _ _ (more a b c m r) = end-in n needs needs-in b c r
+
+-- the needs but one are among all
+others-in : (needs : List Need) (g k a b : ℕ) → Gives (others (g, k) needs) a b → Gives needs a b
+unfolding others
+others-in needs g k a b m = filter-mem⁻¹ (λ e. not (eqb (e .0) g && eqb (e .1) k)) needs (a, b) m .0
+
+-- where a need follows from others there is a chain of two needs or more
+pub implied-far : {needs : List Need} {g k : ℕ} → Implied needs g k → Far needs g k
+implied-far {needs} {g} {k} i = (
+  i .next,
+  others-in needs g k g (i .next) (i .first),
+  chain-within (others (g, k) needs) needs (others-in needs g k) (i .next) k (i .rest),
+)
 
 -- ---- what is reached
 
 module _ (n : ℕ) (needs : List Need) (needs-in : NeedsIn n needs) (a : ℕ) where
+  -- a round more
   reached-step : (f i : ℕ) → i < n → marked (reached n needs a (suc f)) i ≡ reachedBy needs a (reached n needs a f) i
   unfolding reached
   reached-step f i h = tabulate-at (reachedBy needs a (reached n needs a f)) n 0 i false h ∙ ap (reachedBy needs a (reached n needs a f)) (zero-add i)
 
+  -- each job has a mark
   length-reached : (f : ℕ) → length (reached n needs a f) ≡ n
   unfolding reached
   length-reached zero = length-replicate n false
@@ -100,6 +116,7 @@ module _ (n : ℕ) (needs : List Need) (needs-in : NeedsIn n needs) (a : ℕ) wh
       go (inr (h, c, m)) r = put h m (inr (r h (giver-first n needs needs-in f h i m t) c))
 
 module _ {n : ℕ} {needs : List Need} (needs-in : NeedsIn n needs) (free : ¬ (Circle needs)) where
+  -- the marks after n rounds say that a chain leads from a to b
   pub reaches-is : (a b : ℕ) → T (reachesb n needs a b) ↔ Chain needs a b
   unfolding reachesb
   reaches-is a b = (
@@ -125,17 +142,13 @@ module _ {n : ℕ} {needs : List Need} (needs-in : NeedsIn n needs) (free : ¬ (
   unfolding others
   other g k a b m h = filter-mem (λ e. not (eqb (e .0) g && eqb (e .1) k)) needs (a, b) m (simp tests h)
 
-  others-in : (g k a b : ℕ) → Gives (others (g, k) needs) a b → Gives needs a b
-  unfolding others
-  others-in g k a b m = filter-mem⁻¹ (λ e. not (eqb (e .0) g && eqb (e .1) k)) needs (a, b) m .0
-
   -- a chain that g leads to does not come back to g
   rest-others : (g k a c : ℕ) → Chain needs g a → Chain needs a c → Chain (others (g, k) needs) a c
   rest-others g k _ _ w (one a c m) = one a c (other g k a c m (λ h. free (g, rw (h .0) at w)))
   rest-others g k _ _ w (more a b c m r) =
       more a b c (other g k a b m (λ h. free (g, rw (h .0) at w))) (rest-others g k b c (snoc needs g a b w m) r)
 
-  -- so a need follows from others exactly where there is one
+  -- so a need with such a chain beside it follows from others
   pub far-implied : (g k : ℕ) → Gives needs g k → Far needs g k → Implied needs g k
   far-implied g k m (b, a, r) = record {
     need = m;
@@ -144,15 +157,13 @@ module _ {n : ℕ} {needs : List Need} (needs-in : NeedsIn n needs) (free : ¬ (
     rest = rest-others g k b k (one g b a) r;
   }
 
-  pub implied-far : (g k : ℕ) → Implied needs g k → Far needs g k
-  implied-far g k i = (i .next, others-in g k g (i .next) (i .first), chain-within (others (g, k) needs) needs (others-in g k) (i .next) k (i .rest))
-
   -- a need passes the test exactly where it follows from others
   pub implied-is : (g k : ℕ) → (Gives needs g k × T (impliedb n needs (g, k))) ↔ Implied needs g k
-  implied-is g k = (λ h. far-implied g k (h .0) (far-is g k .0 (h .1)), λ i. (i .need, far-is g k .1 (implied-far g k i)))
+  implied-is g k = (λ h. far-implied g k (h .0) (far-is g k .0 (h .1)), λ i. (i .need, far-is g k .1 (implied-far i)))
 
   -- ---- the list
 
+  -- it has of each giver the takers whose need follows
   takers-are : (g k : ℕ) → List·Memᴰ k (impliedTakers n needs g) ↔ Implied needs g k
   unfolding impliedTakers
   takers-are g k = (
@@ -168,6 +179,7 @@ module _ {n : ℕ} {needs : List Need} (needs-in : NeedsIn n needs) (free : ¬ (
       test : ℕ → Bool
       test k = givesb needs g k && impliedb n needs (g, k)
 
+  -- and of c givers from g up all such needs
   from-is : (c g a b : ℕ) → Gives (impliedFrom n needs c g) a b ↔ ((g ≤ a) × (a < g + c) × Implied needs a b)
   unfolding impliedFrom
   from-is zero g a b = (λ m. absurd (List·Memᴰ·not-nil m), λ w. absurd (omega (arith, w .0, w .1)))
@@ -197,8 +209,9 @@ module _ {n : ℕ} {needs : List Need} (needs-in : NeedsIn n needs) (free : ¬ (
   unfolding impliedNeeds
   list-is g k = (λ m. from-is n 0 g k .0 m .2, λ i. from-is n 0 g k .1 (omega arith, omega (arith, needs-in g k (i .need) .0), i))
 
--- ---- "in rising order of giver, then taker"
+-- ---- the order
 
+-- "in rising order of giver, then taker": d comes before e
 abbrev pub Before : Need → Need → Type 0
 Before d e = (d .0 < e .0) ⊎ ((d .0 ≡ e .0) × (d .1 < e .1))
 
@@ -207,6 +220,7 @@ abbrev pub InOrder : List Need → Type 0
 InOrder [] = Unit {0}
 InOrder (d ∷ ds) = ((e : Need) → List·Memᴰ e ds → Before d e) × InOrder ds
 
+-- lists in order, one behind the other
 order-append : (ds es : List Need) → InOrder ds → InOrder es → ((d e : Need) → List·Memᴰ d ds → List·Memᴰ e es → Before d e) → InOrder (ds ++ es)
 order-append [] es a b h = b
 order-append (d ∷ ds) es a b h = (
@@ -214,6 +228,7 @@ order-append (d ∷ ds) es a b h = (
   order-append ds es (a .1) b (λ c e m. h c e (List·Memᴰ·tail m)),
 )
 
+-- the needs of one giver, its takers rising
 row-order : (g : ℕ) (ks : List ℕ) → Rising ks → InOrder (map (λ k. (g, k)) ks)
 row-order g [] r = tt
 row-order g (k ∷ ks) r = (map-mem⁻¹ (Before (g, k)) (λ j. (g, j)) ks (λ j w. inr (refl, r .0 j w)), row-order g ks (r .1))
@@ -224,9 +239,11 @@ order-distinct [] o = tt
 order-distinct (d ∷ ds) o = (λ m. ⊎-elim (λ h. omega (arith, h)) (λ h. omega (arith, h .1)) (o .0 d m), order-distinct ds (o .1))
 
 module _ (n : ℕ) (needs : List Need) where
+  -- the listed needs of giver g
   abbrev row : ℕ → List Need
   row g = map (λ k. (g, k)) (impliedTakers n needs g)
 
+  -- their giver is g; those behind them have later givers
   row-giver : (g : ℕ) (d : Need) → List·Memᴰ d (row g) → d .0 ≡ g
   row-giver g = map-mem⁻¹ (λ (d : Need). d .0 ≡ g) (λ k. (g, k)) (impliedTakers n needs g) (λ k w. refl)
 
@@ -236,6 +253,7 @@ module _ (n : ℕ) (needs : List Need) where
   from-least (suc c) g d m =
       ⊎-elim (λ w. omega (arith, row-giver g d w)) (λ w. omega (arith, from-least c (suc g) d w)) (List·Memᴰ·append-cases (row g) m)
 
+  -- so all are in order
   from-order : (c g : ℕ) → InOrder (impliedFrom n needs c g)
   unfolding impliedFrom impliedTakers
   from-order zero g = tt
@@ -243,12 +261,13 @@ module _ (n : ℕ) (needs : List Need) where
       order-append (row g) (impliedFrom n needs c (suc g)) (row-order g (impliedTakers n needs g) (filter-rising _ (range n 0) (range-rising n 0)))
       (from-order c (suc g)) (λ d e m w. inl (omega (arith, row-giver g d m, from-least c (suc g) e w)))
 
+  -- the list is in order
   pub list-order : InOrder (impliedNeeds n needs)
   unfolding impliedNeeds
   list-order = from-order n 0
 
   -- there are no more than needs
-  pub list-few : NeedsIn n needs → ¬ (Circle needs) → length (impliedNeeds n needs) ≤ length needs
+  list-few : NeedsIn n needs → ¬ (Circle needs) → length (impliedNeeds n needs) ≤ length needs
   list-few needs-in free =
       pigeonhole (impliedNeeds n needs) needs (order-distinct (impliedNeeds n needs) list-order)
       (λ d m. list-is needs-in free (d .0) (d .1) .0 m .need)

@@ -50,7 +50,7 @@ struck-shorter {n} {needs} needs-in free = record {
     left d = not (givesb ds (d .0) (d .1))
 
     go : (g k : ℕ) → Gives needs g k → Dec (Gives ds g k) → Gives (filter left needs) g k ⊎ Far needs g k
-    go g k m (yes w) = inr (implied-far needs-in free g k (list-is needs-in free g k .0 w))
+    go g k m (yes w) = inr (implied-far (list-is needs-in free g k .0 w))
     go g k m (no h) = inl (filter-mem left needs (g, k) m (T-not (givesb ds g k) .1 (λ t. h (gives-is ds g k .0 t))))
 
 -- the same of the reversed needs
@@ -69,6 +69,12 @@ shorter-swap {es} {ds} s = record {
 chain-later : (needs : List Need) (τ : ℕ → ℕ) → ((g k : ℕ) → Gives needs g k → τ g + 1 ≤ τ k) → (a c : ℕ) → Chain needs a c → τ a + 1 ≤ τ c
 chain-later needs τ h _ _ (one a c m) = h a c m
 chain-later needs τ h _ _ (more a b c m r) = omega (arith, h a b m, chain-later needs τ h b c r)
+
+-- a need whose taker starts right after its giver is left, where starts τ rise with each need
+pub tight-left : {es ds : List Need} → Shorter es ds → (τ : ℕ → ℕ) → ((g k : ℕ) → Gives es g k → τ g + 1 ≤ τ k)
+    → (g k : ℕ) → Gives es g k → τ k ≤ τ g + 1 → Gives ds g k
+tight-left {es} s τ h g k m e =
+    ⊎-elim (λ w. w) (λ w. absurd (omega (arith, e, h g (w .0) (w .1), chain-later es τ h (w .0) k (w .2)))) (s .gone g k m)
 
 -- what question 18 asks of a need, with starts t and boards b
 abbrev Spaced : List ℕ → List ℕ → Need → Type 0
@@ -130,11 +136,6 @@ module _ {n : ℕ} {es ds : List Need} (needs-in : NeedsIn n es) (free : ¬ (Cir
   later-all : (τ : ℕ → ℕ) → ((g k : ℕ) → Gives ds g k → τ g + 1 ≤ τ k) → (g k : ℕ) → Gives es g k → τ g + 1 ≤ τ k
   later-all τ h g k m = chain-later ds τ h g k (same-reach g k .0 (one g k m))
 
-  -- a need whose taker starts right after its giver is left
-  pub tight-left : (τ : ℕ → ℕ) → ((g k : ℕ) → Gives es g k → τ g + 1 ≤ τ k) → (g k : ℕ) → Gives es g k → τ k ≤ τ g + 1 → Gives ds g k
-  tight-left τ h g k m e =
-      ⊎-elim (λ w. w) (λ w. absurd (omega (arith, e, h g (w .0) (w .1), chain-later es τ h (w .0) k (w .2)))) (s .gone g k m)
-
   -- the same starts keep the three sentences
   pub same-kept : (τ : ℕ → ℕ) → Kept (Gives es) τ ↔ Kept (Gives ds) τ
   same-kept τ = (
@@ -147,17 +148,18 @@ module _ {n : ℕ} {es ds : List Need} (needs-in : NeedsIn n es) (free : ¬ (Cir
         let later = later-all τ (k .later) in
         record {
           later = later;
-          give-one = λ g a b m w p q. k .give-one g a b (tight-left τ later g a m (omega arith)) (tight-left τ later g b w (omega arith)) p q;
-          take-one = λ a b c m w p q. k .take-one a b c (tight-left τ later a c m (omega arith)) (tight-left τ later b c w (omega arith)) p q;
+          give-one = λ g a b m w p q. k .give-one g a b (tight-left s τ later g a m (omega arith)) (tight-left s τ later g b w (omega arith)) p q;
+          take-one = λ a b c m w p q. k .take-one a b c (tight-left s τ later a c m (omega arith)) (tight-left s τ later b c w (omega arith)) p q;
         },
   )
 
   -- with any cap, the same lists pass, and the same one is best
   pub same-best : (c L : ℕ) → best n (runsb n ds c) L ≡ best n (runsb n es c) L
-  same-best c L = best-same n (runsb n ds c) (runsb n es c) L (λ u f. (
-    λ t. let r = runs-is n ds c u .0 t in runs-is n es c u .1 record { kept = same-kept (at u) .1 (r .kept); capped = r .capped },
-    λ t. let r = runs-is n es c u .0 t in runs-is n ds c u .1 record { kept = same-kept (at u) .0 (r .kept); capped = r .capped },
-  ))
+  same-best c L = best-same n (runsb n ds c) (runsb n es c) L (λ u f. (passes ds es u (same-kept (at u) .1), passes es ds u (same-kept (at u) .0)))
+    where
+      passes : (needs others : List Need) (u : List ℕ) → (Kept (Gives needs) (at u) → Kept (Gives others) (at u))
+          → T (runsb n needs c u) → T (runsb n others c u)
+      passes needs others u k t = let r = runs-is n needs c u .0 t in runs-is n others c u .1 record { kept = k (r .kept); capped = r .capped }
 
   -- question 18 has the same answer, of any starts and boards: where what is left is kept, the taker of another need starts two slots or more after its giver
   pub same-needs-kept : (t b : List ℕ) → needsKept ds t b ≡ needsKept es t b
@@ -188,7 +190,7 @@ module _ {n : ℕ} {es ds : List Need} (needs-in : NeedsIn n es) (free : ¬ (Cir
     where
       go : (o p : Option ℕ) → GiverBefore ds t i o → GiverBefore es t i p → o ≡ p
       go _ _ (nobody h) (nobody l) = refl
-      go _ _ (nobody h) (giver g a e) = absurd (h g (tight-left (at t) (k .later) g i a (omega arith)) e)
+      go _ _ (nobody h) (giver g a e) = absurd (h g (tight-left s (at t) (k .later) g i a (omega arith)) e)
       go _ _ (giver g a e) (nobody l) = absurd (l g (s .within g i a) e)
       go _ _ (giver g a e) (giver h b q) = ap some (k .take-one g h i (s .within g i a) b e q)
 
@@ -262,7 +264,7 @@ struck-none {n} {needs} needs-in free = empty (impliedNeeds n ds) (λ (g, k) m. 
 
     follows : (g k : ℕ) → Implied ds g k → ⊥
     follows g k i =
-        let w = implied-far ds-in ds-free g k i in
+        let w = implied-far i in
         let far : Far needs g k = (w .0, s .within g (w .0) (w .1), chain-within ds needs (s .within) (w .0) k (w .2)) in
         let there = list-is needs-in free g k .1 (far-implied needs-in free g k (s .within g k (i .need)) far) in
         unfold struck in

@@ -261,21 +261,23 @@ listed-is bs bytes ds = (to, from)
     from (f, read, free, same) =
         rw read (ask-yes _ 11 _ (circle-free (length (f .jobs)) (f .needs) (needs-in f (readable bs bytes f read)) .1 free) ∙ ap got (sym same))
 
--- the same of what is listed: with the fields of these needs taken out, the planner leaves the same bytes and the check answers the same
+-- the same of what is listed: the fields of these needs are taken out
 module _ (bs : List ℕ) (bytes : Bytes bs) (ds : List Need) (e : impliedIn bs ≡ got ds) where
-  pub struck-planned : (work table : List ℕ) → plan (strike ds bs) work table ≡ plan bs work table
-  struck-planned work table =
+  -- all that is said above stays
+  pub listed-unchanged : (f : JobFile) × (g : JobFile) × StruckFrom ds f g × Unchanged bs (strike ds bs) f g
+  listed-unchanged =
       let (f, read, free, same) = listed-is bs bytes ds .0 e in
       let (g, says, w, stays) = strike-unchanged bs bytes f read free in
-      rw same (stays .planned work table)
+      (f, g, subst (λ (es : List Need). StruckFrom es f g) (sym same) w, subst (λ (es : List Need). Unchanged bs (strike es bs) f g) (sym same) stays)
+
+  -- so the planner leaves the same bytes, and the check answers the same
+  pub struck-planned : (work table : List ℕ) → plan (strike ds bs) work table ≡ plan bs work table
+  struck-planned = let (f, g, w, stays) = listed-unchanged in stays .planned
 
   pub struck-checked : (table : List ℕ) → check (strike ds bs) table ≡ check bs table
-  struck-checked table =
-      let (f, read, free, same) = listed-is bs bytes ds .0 e in
-      let (g, says, w, stays) = strike-unchanged bs bytes f read free in
-      rw same (stays .checked table)
+  struck-checked = let (f, g, w, stays) = listed-unchanged in stays .checked
 
--- the struck file is one of bytes
+-- the struck file is one of bytes, so that all laws of files speak of it
 pub strike-bytes : (ds : List Need) (bs : List ℕ) → Bytes bs → Bytes (strike ds bs)
 unfolding strike
 strike-bytes ds bs bytes = fieldsBut-bytes (needAt ds bs) bs bytes (length bs) 0

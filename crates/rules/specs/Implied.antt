@@ -25,14 +25,16 @@ pub record Implied (needs : List Need) (g k : ℕ) : Type 0 where
 
 -- ---- the same as a test, for n jobs without a circle (law `implied-is`)
 
--- the jobs that a chain leads to from job a: n rounds, each marks the takers of a and of what was marked before
+-- the jobs that a chain leads to from job a are found in n rounds: each marks the takers of a and of what was marked before
 unfoldable pub reachedBy : List Need → ℕ → List Bool → ℕ → Bool
 reachedBy needs a q i = any (λ d. eqb (d .1) i && (eqb (d .0) a || marked q (d .0))) needs
 
+-- after so many rounds
 unfoldable pub reached : ℕ → List Need → ℕ → ℕ → List Bool
 reached n needs a zero = replicate n false
 reached n needs a (suc f) = let q = reached n needs a f in tabulate (reachedBy needs a q) n 0
 
+-- a chain leads from a to b
 unfoldable pub reachesb : ℕ → List Need → ℕ → ℕ → Bool
 reachesb n needs a b = marked (reached n needs a n) b
 
@@ -51,6 +53,7 @@ unfoldable pub impliedFrom : ℕ → List Need → ℕ → ℕ → List Need
 impliedFrom n needs zero g = []
 impliedFrom n needs (suc c) g = map (λ k. (g, k)) (impliedTakers n needs g) ++ impliedFrom n needs c (suc g)
 
+-- those of all n jobs
 unfoldable pub impliedNeeds : ℕ → List Need → List Need
 impliedNeeds n needs = impliedFrom n needs n 0
 
@@ -61,11 +64,10 @@ impliedIn file =
     let n = length (f .jobs) in
     ask (circleFree n (f .needs)) 11 (got (impliedNeeds n (f .needs))))
 
--- ---- what is given and left: number (0 for a list), how many pairs, and every entry of the lent list
+-- ---- what is given and left: how many pairs, or the refusal, and every entry of the lent list
 
 pub record Listing : Type 0 where
-  pub number : ℕ
-  pub pairs : ℕ
+  pub answer : Answer ℕ
   pub list : List ℕ
 
 -- "giver and taker", as the file numbers them, one pair behind the other
@@ -75,15 +77,15 @@ pairNumbers (d ∷ ds) = suc (d .0) ∷ suc (d .1) ∷ pairNumbers ds
 
 -- a refusal leaves the list as it was; behind the pairs it is as it was
 unfoldable pub listed : Answer (List Need) → List ℕ → Listing
-listed (refused q) list = record { number = q; pairs = 0; list = list }
-listed (got ds) list = let ns = pairNumbers ds in record { number = 0; pairs = length ds; list = ns ++ drop (length ns) list }
+listed (refused q) list = record { answer = refused q; list = list }
+listed (got ds) list = let ns = pairNumbers ds in record { answer = got (length ds); list = ns ++ drop (length ns) list }
 
 -- has the list room for the pairs of every file? (1); then 2 to 11 and 21
 unfoldable pub listImplied : List ℕ → List ℕ → Listing
 listImplied file list =
     choose (leb pairsSize (length list))
     (listed (impliedIn file) list)
-    (record { number = 1; pairs = 0; list = list })
+    (record { answer = refused 1; list = list })
 
 -- ---- "Striking all of them from a file"
 

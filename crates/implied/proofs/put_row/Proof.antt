@@ -10,10 +10,10 @@ use Rattle.implied.proofs.put_row.Statement.{statement}
 use Rattle.implied.proofs.put_row.Tie as tie
 
 abbrev Inv-loop : tie.InvT-loop
-Inv-loop giver takers jobs list₀ count next₀ k₀ list next k = RowSoFar giver takers jobs list₀ count k next list
+Inv-loop giver takers jobs list₀ first next₀ k₀ list next k = RowSoFar giver takers jobs list₀ first k next list
 
 abbrev μ-loop : tie.MeasureT-loop
-μ-loop giver takers jobs list₀ count next₀ k₀ list next k = jobs - k
+μ-loop giver takers jobs list₀ first next₀ k₀ list next k = jobs - k
 
 -- job k is a taker
 taken : (c : tie.Then1 Inv-loop μ-loop) → member (c .before .before .before .before .before .args .takers) (63 - c .before .before .before .loop .k) ≡ true
@@ -24,7 +24,7 @@ room : (c : tie.Then1 Inv-loop μ-loop) → c .before .before .before .loop .nex
 room c = row-room (c .before .before .before .loop .inv) (c .before .before .loop-test .taken) (taken c) (c .before .before .before .before .before .pre .2)
 
 loop-holds : tie.Need-loop-holds Inv-loop μ-loop
-loop-holds c = let a = c .before .args in row-start (a .giver) (a .takers) (a .jobs) (a .list .now) (a .count)
+loop-holds c = let a = c .before .args in row-start (a .giver) (a .takers) (a .jobs) (a .list .now) (a .first)
 
 add-k : tie.Need-add-k Inv-loop μ-loop
 add-k c = omega arith

@@ -1,4 +1,4 @@
--- `implied::put_rows` meets its contract. The rows of the givers from `giver` up are still to come, from entry `count` on. Assumes nothing.
+-- `implied::put_rows` meets its contract. The rows of the givers from `giver` up are still to come, from entry `next` on. Assumes nothing.
 use Prim.Native.Nat.{_-_}
 use native.Mathlib.Omega.{arith}
 use Rattle.implied.specs.ListingLaws.{RowsSoFar, rows-start, rows-room, rows-put, rows-size, rows-end}
@@ -6,10 +6,10 @@ use Rattle.implied.proofs.put_rows.Statement.{statement}
 use Rattle.implied.proofs.put_rows.Tie as tie
 
 abbrev Inv-loop : tie.InvT-loop
-Inv-loop takers reach jobs list₀ count₀ giver₀ list count giver = RowsSoFar takers reach jobs list₀ giver count list
+Inv-loop takers reach jobs list₀ next₀ giver₀ list next giver = RowsSoFar takers reach jobs list₀ giver next list
 
 abbrev μ-loop : tie.MeasureT-loop
-μ-loop takers reach jobs list₀ count₀ giver₀ list count giver = jobs - giver
+μ-loop takers reach jobs list₀ next₀ giver₀ list next giver = jobs - giver
 
 loop-holds : tie.Need-loop-holds Inv-loop μ-loop
 loop-holds c = let a = c .before .before .args in rows-start (a .takers .now) (a .reach .now) (a .jobs) (a .list .now)

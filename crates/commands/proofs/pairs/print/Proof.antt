@@ -7,10 +7,10 @@ use Rattle.commands.proofs.pairs.print.Statement.{statement}
 use Rattle.commands.proofs.pairs.print.Tie as tie
 
 abbrev Inv-loop : tie.InvT-loop
-Inv-loop list taker₀ t3 t4 taker = (1 ≤ taker) × (taker ≤ length list + 1)
+Inv-loop list second₀ t3 t4 second = (1 ≤ second) × (second ≤ length list + 1)
 
 abbrev μ-loop : tie.MeasureT-loop
-μ-loop list taker₀ t3 t4 taker = length list + 1 - taker
+μ-loop list second₀ t3 t4 second = length list + 1 - second
 
 loop-holds : tie.Need-loop-holds Inv-loop μ-loop
 loop-holds c = omega arith
@@ -25,7 +25,7 @@ shared-slice-read-print-decimal : tie.Need-shared-slice-read-print-decimal Inv-l
 shared-slice-read-print-decimal c = search needs
 
 cast-print-decimal : tie.Need-cast-print-decimal Inv-loop μ-loop
-cast-print-decimal c = let l = c .before .before .loop in omega (arith, c .shared-slice-known2 .given (l .taker - 1))
+cast-print-decimal c = let l = c .before .before .loop in omega (arith, c .shared-slice-known2 .given (l .second - 1))
 
 print-decimal-requires : tie.Need-print-decimal-requires Inv-loop μ-loop
 print-decimal-requires c κs = search needs
@@ -43,7 +43,7 @@ shared-slice-read-print-decimal-2 : tie.Need-shared-slice-read-print-decimal-2 I
 shared-slice-read-print-decimal-2 c = search needs
 
 cast-print-decimal-2 : tie.Need-cast-print-decimal-2 Inv-loop μ-loop
-cast-print-decimal-2 c = let l = c .before .before .before .before .before .before .loop in omega (arith, c .shared-slice-known3 .given (l .taker))
+cast-print-decimal-2 c = let l = c .before .before .before .before .before .before .loop in omega (arith, c .shared-slice-known3 .given (l .second))
 
 print-decimal-requires-2 : tie.Need-print-decimal-requires-2 Inv-loop μ-loop
 print-decimal-requires-2 c κs = search needs
@@ -54,8 +54,8 @@ slice-aggregate-write-all-2 c = search needs
 write-all-requires-2 : tie.Need-write-all-requires-2 Inv-loop μ-loop
 write-all-requires-2 c κs = search needs
 
-add-taker : tie.Need-add-taker Inv-loop μ-loop
-add-taker c = search needs
+add-second : tie.Need-add-second Inv-loop μ-loop
+add-second c = search needs
 
 loop-less : tie.Need-loop-less Inv-loop μ-loop
 loop-less c = search needs
@@ -86,7 +86,7 @@ print-spec =
     print-decimal-requires-2
     slice-aggregate-write-all-2
     write-all-requires-2
-    add-taker
+    add-second
     loop-less
     loop-again
     returns)
