@@ -71,32 +71,32 @@ module _ (g : ℕ) (s : Set) (n k : ℕ) (h : k < n) where
   row-out m = rw (takers-step, m) refl
 
 -- the loop over the takers: those from k up are to come, from entry `next` on, and then the list is as it shall be
-pub record RowSoFar (g : ℕ) (s : Set) (n : ℕ) (list₀ : List ℕ) (count k next : ℕ) (list : List ℕ) : Type 0 where
+pub record RowSoFar (g : ℕ) (s : Set) (n : ℕ) (list₀ : List ℕ) (first k next : ℕ) (list : List ℕ) : Type 0 where
   pub short : k ≤ n
   pub size : length list ≡ length list₀
-  pub entries : next + length (rowFrom g s n k) ≡ count + length (rowNumbers g (takersOf s n 0))
-  pub same : put next (rowFrom g s n k) list ≡ put count (rowNumbers g (takersOf s n 0)) list₀
+  pub entries : next + length (rowFrom g s n k) ≡ first + length (rowNumbers g (takersOf s n 0))
+  pub same : put next (rowFrom g s n k) list ≡ put first (rowNumbers g (takersOf s n 0)) list₀
 
 -- before the first taker
-pub row-start : (g : ℕ) (s : Set) (n : ℕ) (list : List ℕ) (count : ℕ) → RowSoFar g s n list count 0 count list
-row-start g s n list count =
+pub row-start : (g : ℕ) (s : Set) (n : ℕ) (list : List ℕ) (first : ℕ) → RowSoFar g s n list first 0 first list
+row-start g s n list first =
     let e : n - 0 ≡ n = omega arith in
     record {
       short = omega arith;
       size = refl;
-      entries = ap (λ (c : ℕ). count + length (rowNumbers g (takersOf s c 0))) e;
-      same = ap (λ (c : ℕ). put count (rowNumbers g (takersOf s c 0)) list) e;
+      entries = ap (λ (c : ℕ). first + length (rowNumbers g (takersOf s c 0))) e;
+      same = ap (λ (c : ℕ). put first (rowNumbers g (takersOf s c 0)) list) e;
     }
 
-module _ {g : ℕ} {s : Set} {n : ℕ} {list₀ : List ℕ} {count k next : ℕ} {list : List ℕ} (r : RowSoFar g s n list₀ count k next list) where
+module _ {g : ℕ} {s : Set} {n : ℕ} {list₀ : List ℕ} {first k next : ℕ} {list : List ℕ} (r : RowSoFar g s n list₀ first k next list) where
   module _ (h : k < n) where
     -- where job k is a taker, there is room for its pair
-    pub row-room : member s (63 - k) ≡ true → count + length (rowNumbers g (takersOf s n 0)) ≤ length list₀ → next + 2 ≤ length list
+    pub row-room : member s (63 - k) ≡ true → first + length (rowNumbers g (takersOf s n 0)) ≤ length list₀ → next + 2 ≤ length list
     unfolding rowNumbers pairNumbers
     row-room m fits = omega (arith, fits, r .size, r .entries, ap length (row-in g s n k h m))
 
     -- and it is written
-    pub row-put : member s (63 - k) ≡ true → (l : List ℕ) → l ≡ put next (rowNumbers g (k ∷ [])) list → RowSoFar g s n list₀ count (k + 1) (next + 2) l
+    pub row-put : member s (63 - k) ≡ true → (l : List ℕ) → l ≡ put next (rowNumbers g (k ∷ [])) list → RowSoFar g s n list₀ first (k + 1) (next + 2) l
     unfolding rowNumbers pairNumbers
     row-put m l e = record {
       short = omega arith;
@@ -108,7 +108,7 @@ module _ {g : ℕ} {s : Set} {n : ℕ} {list₀ : List ℕ} {count k next : ℕ}
     }
 
     -- else nothing is
-    pub row-skip : member s (63 - k) ≡ false → RowSoFar g s n list₀ count (k + 1) next list
+    pub row-skip : member s (63 - k) ≡ false → RowSoFar g s n list₀ first (k + 1) next list
     row-skip m = record {
       short = omega arith;
       size = r .size;
@@ -121,10 +121,10 @@ module _ {g : ℕ} {s : Set} {n : ℕ} {list₀ : List ℕ} {count k next : ℕ}
   unfolding takersOf filter range rowNumbers pairNumbers
   none-left h = let e : n - k ≡ 0 = omega arith in ap (λ (c : ℕ). rowNumbers g (takersOf s c k)) e
 
-  pub row-size : n ≤ k → next ≡ count + length (rowNumbers g (takersOf s n 0))
+  pub row-size : n ≤ k → next ≡ first + length (rowNumbers g (takersOf s n 0))
   row-size h = omega (arith, r .entries, ap length (none-left h))
 
-  pub row-end : n ≤ k → list ≡ put count (rowNumbers g (takersOf s n 0)) list₀
+  pub row-end : n ≤ k → list ≡ put first (rowNumbers g (takersOf s n 0)) list₀
   unfolding put
   row-end h = ap (λ (xs : List ℕ). put next xs list) (sym (none-left h)) ∙ r .same
 
@@ -146,11 +146,11 @@ module _ (takers reach : List ℕ) (n : ℕ) where
       ap (λ (c : ℕ). rowsNumbers takers reach n c g) e ∙ ap (λ (j : ℕ). rowOf g ++ rowsNumbers takers reach n (n - (g + 1)) j) (sym (add-one g))
 
   -- the loop over the givers: those from g up are to come, from entry `next` on
-  pub record RowsSoFar (list₀ : List ℕ) (g count : ℕ) (list : List ℕ) : Type 0 where
+  pub record RowsSoFar (list₀ : List ℕ) (g next : ℕ) (list : List ℕ) : Type 0 where
     pub short : g ≤ n
     pub size : length list ≡ length list₀
-    pub entries : count + length (rowsFrom g) ≡ length (rowsNumbers takers reach n n 0)
-    pub same : put count (rowsFrom g) list ≡ put 0 (rowsNumbers takers reach n n 0) list₀
+    pub entries : next + length (rowsFrom g) ≡ length (rowsNumbers takers reach n n 0)
+    pub same : put next (rowsFrom g) list ≡ put 0 (rowsNumbers takers reach n n 0) list₀
 
   -- before the first giver
   pub rows-start : (list : List ℕ) → RowsSoFar list 0 0 list
@@ -163,10 +163,10 @@ module _ (takers reach : List ℕ) (n : ℕ) where
         same = ap (λ (c : ℕ). put 0 (rowsNumbers takers reach n c 0) list) e;
       }
 
-module _ {takers reach : List ℕ} {n : ℕ} {list₀ : List ℕ} {g count : ℕ} {list : List ℕ} (r : RowsSoFar takers reach n list₀ g count list) where
+module _ {takers reach : List ℕ} {n : ℕ} {list₀ : List ℕ} {g next : ℕ} {list : List ℕ} (r : RowsSoFar takers reach n list₀ g next list) where
   module _ (h : g < n) where
     -- there is room for the row of giver g
-    pub rows-room : length (rowsNumbers takers reach n n 0) ≤ length list₀ → count + length (rowOf takers reach n g) ≤ length list
+    pub rows-room : length (rowsNumbers takers reach n n 0) ≤ length list₀ → next + length (rowOf takers reach n g) ≤ length list
     rows-room fits = omega (
       arith,
       fits,
@@ -177,11 +177,11 @@ module _ {takers reach : List ℕ} {n : ℕ} {list₀ : List ℕ} {g count : ℕ
     )
 
     -- it is written
-    pub rows-put : (next : ℕ) (l : List ℕ) → next ≡ count + length (rowOf takers reach n g) → l ≡ put count (rowOf takers reach n g) list
-        → RowsSoFar takers reach n list₀ (g + 1) next l
-    rows-put next l e f = record {
+    pub rows-put : (behind : ℕ) (l : List ℕ) → behind ≡ next + length (rowOf takers reach n g) → l ≡ put next (rowOf takers reach n g) list
+        → RowsSoFar takers reach n list₀ (g + 1) behind l
+    rows-put behind l e f = record {
       short = omega arith;
-      size = ap length f ∙ length-put count (rowOf takers reach n g) list ∙ r .size;
+      size = ap length f ∙ length-put next (rowOf takers reach n g) list ∙ r .size;
       entries = omega (
         arith,
         r .entries,
@@ -191,8 +191,8 @@ module _ {takers reach : List ℕ} {n : ℕ} {list₀ : List ℕ} {g count : ℕ
       );
       same =
           ap₂ (λ (i : ℕ) (z : List ℕ). put i (rowsFrom takers reach n (g + 1)) z) e f
-          ∙ sym (put-append count (rowOf takers reach n g) (rowsFrom takers reach n (g + 1)) list)
-          ∙ ap (λ (xs : List ℕ). put count xs list) (sym (rows-step takers reach n g h)) ∙ r .same;
+          ∙ sym (put-append next (rowOf takers reach n g) (rowsFrom takers reach n (g + 1)) list)
+          ∙ ap (λ (xs : List ℕ). put next xs list) (sym (rows-step takers reach n g h)) ∙ r .same;
     }
 
   -- behind the last giver
@@ -200,9 +200,9 @@ module _ {takers reach : List ℕ} {n : ℕ} {list₀ : List ℕ} {g count : ℕ
   unfolding rowsNumbers
   no-rows h = let e : n - g ≡ 0 = omega arith in ap (λ (c : ℕ). rowsNumbers takers reach n c g) e
 
-  pub rows-size : n ≤ g → count ≡ length (rowsNumbers takers reach n n 0)
+  pub rows-size : n ≤ g → next ≡ length (rowsNumbers takers reach n n 0)
   rows-size h = omega (arith, r .entries, ap length (no-rows h))
 
   pub rows-end : n ≤ g → list ≡ put 0 (rowsNumbers takers reach n n 0) list₀
   unfolding put
-  rows-end h = ap (λ (xs : List ℕ). put count xs list) (sym (no-rows h)) ∙ r .same
+  rows-end h = ap (λ (xs : List ℕ). put next xs list) (sym (no-rows h)) ∙ r .same

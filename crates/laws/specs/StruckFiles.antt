@@ -264,18 +264,25 @@ listed-is bs bytes ds = (to, from)
 -- the same of what is listed: the fields of these needs are taken out
 module _ (bs : List ℕ) (bytes : Bytes bs) (ds : List Need) (e : impliedIn bs ≡ got ds) where
   -- all that is said above stays
-  pub listed-unchanged : (f : JobFile) × (g : JobFile) × StruckFrom ds f g × Unchanged bs (strike ds bs) f g
+  pub listed-unchanged : (f : JobFile) × (g : JobFile) × (readFile bs ≡ got f) × (readFile (strike ds bs) ≡ got g) × StruckFrom ds f g
+      × Unchanged bs (strike ds bs) f g
   listed-unchanged =
       let (f, read, free, same) = listed-is bs bytes ds .0 e in
-      let (g, says, w, stays) = strike-unchanged bs bytes f read free in
-      (f, g, subst (λ (es : List Need). StruckFrom es f g) (sym same) w, subst (λ (es : List Need). Unchanged bs (strike es bs) f g) (sym same) stays)
+      let (g, says, w, stays) = strike-unchanged bs bytes f read free in (
+        f,
+        g,
+        read,
+        subst (λ (es : List Need). readFile (strike es bs) ≡ got g) (sym same) says,
+        subst (λ (es : List Need). StruckFrom es f g) (sym same) w,
+        subst (λ (es : List Need). Unchanged bs (strike es bs) f g) (sym same) stays,
+      )
 
   -- so the planner leaves the same bytes, and the check answers the same
   pub struck-planned : (work table : List ℕ) → plan (strike ds bs) work table ≡ plan bs work table
-  struck-planned = let (f, g, w, stays) = listed-unchanged in stays .planned
+  struck-planned = let (f, g, read, says, w, stays) = listed-unchanged in stays .planned
 
   pub struck-checked : (table : List ℕ) → check (strike ds bs) table ≡ check bs table
-  struck-checked = let (f, g, w, stays) = listed-unchanged in stays .checked
+  struck-checked = let (f, g, read, says, w, stays) = listed-unchanged in stays .checked
 
 -- the struck file is one of bytes, so that all laws of files speak of it
 pub strike-bytes : (ds : List Need) (bs : List ℕ) → Bytes bs → Bytes (strike ds bs)
