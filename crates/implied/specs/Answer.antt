@@ -17,6 +17,7 @@ use Rattle.laws.specs.Tests.{T-true, T-leb, choose-yes, choose-no}
 use Rattle.laws.specs.Lists.{filter-same}
 use Rattle.laws.specs.Counting.{range-below}
 use Rattle.laws.specs.Numbers.{bytes-all}
+use Rattle.laws.specs.Fields.{number-refused}
 use Rattle.laws.specs.JobFile.{readable, needs-in}
 use Rattle.laws.specs.Refusals.{read-got, implied-most}
 use Rattle.laws.specs.Circles.{circle-free}
@@ -77,12 +78,8 @@ module _ (file list : List ℕ) (room : pairsSize ≤ length list) where
   -- questions 2 to 10, and 21
   pub file-refused : (F : Counts) (offsets givers takers : List ℕ) → Reads file F offsets givers takers → (F .number ≡ 0 → ⊥)
       → listingOf (Refused (F .number)) list ≡ listImplied file list
-  unfolding impliedIn after numberOf
-  file-refused F offsets givers takers reads n = refused-by (F .number) (rw (go (readFile file) refl) refl)
-    where
-      go : (x : Answer JobFile) → readFile file ≡ x → x ≡ refused (F .number)
-      go (refused q) e = ap refused (sym (reads .number-is ∙ ap numberOf e))
-      go (got f) e = absurd (n (reads .number-is ∙ ap numberOf e))
+  unfolding impliedIn after
+  file-refused F offsets givers takers reads n = refused-by (F .number) (rw (number-refused (readFile file) (F .number) (reads .number-is) n) refl)
 
 -- there is room for a list, and the file is read
 pub record FileRead (file list : List ℕ) (F : Counts) (offsets givers takers : List ℕ) : Type 0 where

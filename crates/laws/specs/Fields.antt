@@ -1,5 +1,5 @@
 -- Answers, fields of a file, and reading them one after the other. Assumes nothing.
-use mathlib.Core.Path.{_≡_, refl, ap, subst}
+use mathlib.Core.Path.{_≡_, refl, sym, ap, subst}
 use mathlib.Core.Logic.{_↔_}
 use mathlib.Core.Bool.{Bool, true, false}
 use mathlib.Core.List.{List}
@@ -9,7 +9,7 @@ use borrow.Author.Tests.{lt-ltb, le-ltb}
 use lib.ListN.{length, drop, length-take, length-drop}
 use lib.Dec.{T, ltb}
 use Rattle.rules.specs.Basics.{choose}
-use Rattle.rules.specs.Fields.{Answer, refused, got, ask, after, part, fieldEnd, value, whole, overFields}
+use Rattle.rules.specs.Fields.{Answer, refused, got, numberOf, ask, after, part, fieldEnd, value, whole, overFields}
 use Rattle.rules.specs.Numbers.{Bytes}
 use Rattle.laws.specs.Tests.{tests}
 use Rattle.laws.specs.Numbers.{bytes-take, bytes-drop}
@@ -39,6 +39,12 @@ pub ask-no : {A : Type 0} (b : Bool) (q : ℕ) (r : Answer A) → (T b → ⊥) 
 unfolding ask
 ask-no true q r n = absurd (n tt)
 ask-no false q r n = refl
+
+-- an answer with a number that is not 0 is the refusal by it
+pub number-refused : {A : Type 0} (r : Answer A) (q : ℕ) → q ≡ numberOf r → (q ≡ 0 → ⊥) → r ≡ refused q
+unfolding numberOf
+number-refused (refused p) q e n = ap refused (sym e)
+number-refused (got a) q e n = absurd (n e)
 
 -- ---- two answers side by side
 

@@ -9,7 +9,7 @@ use lib.ListN.{length, drop, replicate}
 use lib.Seq.{drop-at}
 use lib.Dec.{T, leb, eqb}
 use Rattle.rules.specs.Basics.{choose, at}
-use Rattle.rules.specs.Fields.{Answer, refused, got, after, numberOf}
+use Rattle.rules.specs.Fields.{Answer, after}
 use Rattle.rules.specs.Needs.{Need, NeedsIn, circleFree}
 use Rattle.rules.specs.JobFile.{JobFile, mostBoards, readFile}
 use Rattle.rules.specs.Program.{slots}
@@ -20,7 +20,7 @@ use Rattle.rules.specs.Answers.{planTable, plan, cleared}
 use Rattle.laws.specs.Tests.{T-true, T-leb, tests, by-choice, choose-yes, choose-no}
 use Rattle.laws.specs.Caps.{capped-slots}
 use Rattle.laws.specs.Planned.{wide-enough}
-use Rattle.laws.specs.Fields.{ask-yes, ask-no}
+use Rattle.laws.specs.Fields.{ask-yes, ask-no, number-refused}
 use Rattle.laws.specs.Numbers.{bytes-all}
 use Rattle.laws.specs.JobFile.{readable}
 use Rattle.laws.specs.Refusals.{read-got}
@@ -50,11 +50,6 @@ rounded-up : (n c s : ℕ) → 0 < c → n ≤ s * c → (n + (c - 1)) / c ≤ s
 rounded-up n c s p h = let l : n + (c - 1) < (s + 1) * c = omega (arith, add-mul s 1 c, one-mul c) in omega (arith, div-lt-iff-lt-mul p .1 l)
 
 -- ---- questions 2 to 10, and 21
-
-number-refused : {A : Type 0} (r : Answer A) (q : ℕ) → q ≡ numberOf r → (q ≡ 0 → ⊥) → r ≡ refused q
-unfolding numberOf
-number-refused (refused p) q e n = ap refused (sym e)
-number-refused (got a) q e n = absurd (n e)
 
 module _ (bs : List ℕ) (r : Counts) (o g t : List ℕ) (reads : Reads bs r o g t) where
   -- the reader refuses

@@ -7,7 +7,7 @@ use native.Mathlib.Omega.{arith}
 use lib.ListN.{length, take, drop, length-drop, length-map}
 use lib.Dec.{T, leb, eqb}
 use Rattle.rules.specs.Basics.{at, all, range}
-use Rattle.rules.specs.Fields.{Answer, refused, got, ask, after, numberOf, value}
+use Rattle.rules.specs.Fields.{refused, got, ask, after, value}
 use Rattle.rules.specs.Needs.{Need, NeedsIn, circleFree}
 use Rattle.rules.specs.JobFile.{JobFile, nthJob, nameOk, mostBoards, jobOf, readFile}
 use Rattle.rules.specs.Table.{nthRow, starts, boardsOf, rowOf, decode, labelled, needsKept, rowStart}
@@ -15,7 +15,7 @@ use Rattle.rules.specs.Answers.{check}
 use Rattle.laws.specs.Tests.{tests, T-and, T-leb, T-all, bool-ext}
 use Rattle.laws.specs.Lists.{nth-mem, tabulate-at}
 use Rattle.laws.specs.Counting.{range-below}
-use Rattle.laws.specs.Fields.{ask-yes, ask-no}
+use Rattle.laws.specs.Fields.{ask-yes, ask-no, number-refused}
 use Rattle.laws.specs.JobFile.{Readable, readable}
 use Rattle.laws.specs.Check.{q15, q16, q18}
 use Rattle.laws.specs.Refusals.{read-got}
@@ -50,12 +50,8 @@ module _ (file table : List ℕ) where
     -- ---- questions 2 to 10, and 21
 
     pub file-refused : (F .number ≡ 0 → ⊥) → verdict.Refused (F .number) ≡ verdictOf (check file table)
-    unfolding check after numberOf
-    file-refused n = refused-by (F .number) (rw (go (readFile file) refl) refl)
-      where
-        go : (x : Answer JobFile) → readFile file ≡ x → x ≡ refused (F .number)
-        go (refused q) e = ap refused (sym (reads .number-is ∙ ap numberOf e))
-        go (got f) e = absurd (n (reads .number-is ∙ ap numberOf e))
+    unfolding check after
+    file-refused n = refused-by (F .number) (rw (number-refused (readFile file) (F .number) (reads .number-is) n) refl)
 
     module _ (bytes : (i : ℕ) → at file i < 256) (ok : F .number ≡ 0) where
       file-got : (f : JobFile) × (readFile file ≡ got f)
