@@ -8,6 +8,7 @@ use crate::reference::lists;
 use crate::reference::needs::Graph;
 use crate::reference::reading::{read, JobFile, LONGEST_FILE, MOST_BOARDS};
 use crate::reference::search;
+use crate::reference::small::small_gates;
 use crate::reference::table::Table;
 use crate::report::shown;
 use crate::stage::Verdict;
@@ -429,7 +430,7 @@ pub fn all_small(tester: &mut Tester, most: u8) {
         for (limit, boards) in (1..=jobs + 1).flat_map(|limit| boards.map(|boards| (limit, boards))) {
             let file = Draft { boards, ..Draft::plain(limit, jobs as usize, &needs) }.bytes();
             tester.label = format!("{jobs} jobs, needs {needs:?}, limit {limit}, most boards {boards:?}");
-            let planned = tester.plan("plan: all small gates", &file);
+            let planned = tester.plan("plan: all needs between few jobs", &file);
             let Ok(implied) = implied_needs(&file) else { break };
             all_lists(tester, &file, planned.ok().and_then(|table| starts_of(&table)));
             if limit == 1 && boards.is_none() {
@@ -438,6 +439,26 @@ pub fn all_small(tester: &mut Tester, most: u8) {
             if !implied.is_empty() {
                 let _ = same_plan(tester, &file, &implied::struck(&file, &implied));
             }
+        }
+    }
+}
+
+/// Every small gate of request 14, with the number of its jobs for the limit, its needs in rising and in falling order: the
+/// table's slots are the fewest that trying every start list finds.
+pub fn every_small_gate(tester: &mut Tester) {
+    for gate in small_gates() {
+        let rising: Vec<(u8, u8)> =
+            gate.needs.iter().map(|&(giver, taker)| (giver as u8 + 1, taker as u8 + 1)).collect();
+        let mut orders = vec![rising.clone(), rising.into_iter().rev().collect()];
+        orders.dedup();
+        for needs in orders {
+            let file = Draft::plain(gate.jobs as u8, gate.jobs, &needs).bytes();
+            tester.label = format!("small gate {} {}, needs {needs:?}", gate.jobs, gate.number);
+            let planned = tester.plan("plan: every small gate", &file);
+            let slots = planned.ok().and_then(|table| Table::read(&table)).map(|table| table.slots as usize);
+            let label = &tester.label;
+            let verdict = agree(&slots, &Some(gate.fewest_slots));
+            tester.report.case("every small gate: fewest slots", verdict, || format!("{label}, file {}", shown(&file)));
         }
     }
 }

@@ -1,6 +1,6 @@
-//! compare [SEED] [COUNT] [FIRST]: the named cases, all small gates, and the generated files of a seed from index FIRST
-//! on; and, if GATE_PLAN and GATE_IMPLIED name them, the planning program and the one that lists the needs that follow
-//! from others. Ends in 'N passed, M failed'.
+//! compare [SEED] [COUNT] [FIRST]: the named cases, all needs between few jobs, every small gate, and the generated files of a seed from index FIRST
+//! on; and, if GATE_PLAN, GATE_IMPLIED and GATE_SMALL name them, the planning program, the one that lists the needs that
+//! follow from others and the one that prints every small gate. Ends in 'N passed, M failed'.
 
 use gate_tests::{cases, paper, program, tester::Tester};
 use std::process::ExitCode;
@@ -18,6 +18,7 @@ fn main() -> ExitCode {
     let mut tester = Tester::new();
     paper::run(&mut tester);
     cases::all_small(&mut tester, most);
+    cases::every_small_gate(&mut tester);
     cases::program_p(&mut tester, seed, count / 20);
     for index in first..first + count {
         cases::run(&mut tester, seed, index);
@@ -29,6 +30,10 @@ fn main() -> ExitCode {
     match std::env::var("GATE_IMPLIED") {
         Ok(name) => program::implied_needs(&mut tester, &name, most, seed, (count / 20).min(MOST_GROWN)),
         Err(_) => println!("the program implied_needs is not there: not tried"),
+    }
+    match std::env::var("GATE_SMALL") {
+        Ok(name) => program::small_gates(&mut tester, &name),
+        Err(_) => println!("the program small_gates is not there: not tried"),
     }
     tester.report.print();
     if tester.report.failed == 0 {

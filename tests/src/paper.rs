@@ -1,13 +1,14 @@
 //! The cases that document 01 names, with their answers written out, and others whose answer its text settles, or that
-//! of requests 5, 12 and 13 in document 02.
+//! of requests 5, 12, 13 and 14 in document 02.
 
 use crate::generate::drafts::{boards_field, field, job_field, need_field, Draft};
 use crate::reference::entries::table_of;
 use crate::reference::implied::implied_needs;
 use crate::reference::needs::Graph;
 use crate::reference::reading::read;
+use crate::reference::small::small_gates;
 use crate::reference::table::{Row, Table};
-use crate::reference::text::{printed, printed_needs};
+use crate::reference::text::{printed, printed_gates, printed_needs};
 use crate::report::shown;
 use crate::tester::Tester;
 
@@ -46,6 +47,7 @@ pub fn run(tester: &mut Tester) {
         let verdict = if found == listed { Ok(()) } else { Err(found) };
         tester.report.case("named: the reference's list", verdict, || name.to_string());
     }
+    named_small_gates(tester);
     printed_example(tester);
     checked(tester);
     checked_with_most_boards(tester);
@@ -246,6 +248,43 @@ fn listed_cases() -> Vec<(&'static str, Draft, &'static str)> {
         ("a circle of three", plain(3, &[(1, 2), (2, 3), (3, 1)]), "refused 11\n"),
         ("a circle beside a need that follows", plain(5, &[&shortcut[..], &[(4, 5), (5, 4)]].concat()), "refused 11\n"),
     ]
+}
+
+/// Of the reference's small gates: how many there are of 1 to 4 jobs, the first four lines and the last; and lines that
+/// stand there once, each for these needs.
+fn named_small_gates(tester: &mut Tester) {
+    let group = "named: the reference's small gates";
+    let gates = small_gates();
+    let text = printed_gates(&gates);
+    let lines: Vec<&str> = text.lines().collect();
+    let counts = [1, 2, 3, 4].map(|jobs| gates.iter().filter(|gate| gate.jobs == jobs).count());
+    let ends = [1, 2, 3, 4, 572].map(|line| lines.get(line - 1).copied().unwrap_or_default());
+    let right = counts == [1, 3, 25, 543] && ends == ["1 0 1", "2 0 1", "2 2 2", "2 4 2", "4 29456 4"];
+    let verdict = if right { Ok(()) } else { Err(format!("{counts:?}, {ends:?}")) };
+    tester.report.case(group, verdict, || "how many, and the lines at the ends".to_string());
+    let cases: [(&str, &[(usize, usize)]); 10] = [
+        ("1 0 1", &[]),
+        ("2 2 2", &[(1, 2)]),
+        ("2 4 2", &[(2, 1)]),
+        ("3 6 3", &[(1, 2), (1, 3)]),
+        ("3 34 3", &[(1, 2), (2, 3)]),
+        ("3 36 3", &[(1, 3), (2, 3)]),
+        ("4 14 3", &[(1, 2), (1, 3), (1, 4)]),
+        ("4 204 3", &[(1, 3), (1, 4), (2, 3), (2, 4)]),
+        ("4 2050 2", &[(1, 2), (3, 4)]),
+        ("4 2182 4", &[(1, 2), (1, 3), (2, 4), (3, 4)]),
+    ];
+    for (line, needs) in cases {
+        let at_line = gates.iter().zip(&lines).filter(|(_, found)| **found == line);
+        let found: Vec<Vec<(usize, usize)>> = at_line.map(|(gate, _)| numbered_from_1(&gate.needs)).collect();
+        let verdict = if found == [needs] { Ok(()) } else { Err(format!("{found:?}, not {needs:?}")) };
+        tester.report.case(group, verdict, || line.to_string());
+    }
+}
+
+/// Needs as files have them.
+fn numbered_from_1(needs: &[(usize, usize)]) -> Vec<(usize, usize)> {
+    needs.iter().map(|(giver, taker)| (giver + 1, taker + 1)).collect()
 }
 
 /// Each of 64 jobs needs all before it: all but those for the job right before follow.

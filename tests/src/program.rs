@@ -1,4 +1,5 @@
-//! Tries the programs: what they print for named and generated files, each on their standard input.
+//! Tries the programs: what they print for named and generated files, each on their standard input, and what the one
+//! without input prints.
 
 use crate::generate::drafts::Draft;
 use crate::generate::random::Random;
@@ -7,7 +8,8 @@ use crate::paper;
 use crate::reference::entries;
 use crate::reference::implied;
 use crate::reference::reading::LONGEST_FILE;
-use crate::reference::text::{printed, printed_needs};
+use crate::reference::small;
+use crate::reference::text::{printed, printed_gates, printed_needs};
 use crate::report::shown;
 use crate::stage::Verdict;
 use crate::tester::Tester;
@@ -36,7 +38,7 @@ pub fn implied_needs(tester: &mut Tester, program: &str, most: u8, seed: u64, co
     for (jobs, needs) in shapes::all_needs(most) {
         tester.label = format!("{jobs} jobs, needs {needs:?}");
         let file = Draft::plain(1, jobs as usize, &needs).bytes();
-        lists(tester, "program implied_needs: all small gates", program, &file);
+        lists(tester, "program implied_needs: all needs between few jobs", program, &file);
     }
     for index in 0..count {
         let mut random = Random::new(seed ^ 0x696d_706c, index);
@@ -48,6 +50,22 @@ pub fn implied_needs(tester: &mut Tester, program: &str, most: u8, seed: u64, co
         let file = varied_bytes(&mut random, &draft);
         lists(tester, "program implied_needs: grown files", program, &file);
     }
+}
+
+/// The program that prints every small gate: each line, and that nothing else is written.
+pub fn small_gates(tester: &mut Tester, program: &str) {
+    let nothing_else = "program small_gates: nothing else";
+    let found = match output(program, &[]) {
+        Ok(found) => String::from_utf8_lossy(&found).into_owned(),
+        Err(error) => return tester.report.case(nothing_else, Err(error.to_string()), || program.to_string()),
+    };
+    let mut lines = found.split_inclusive('\n');
+    for (at, expected) in printed_gates(&small::small_gates()).split_inclusive('\n').enumerate() {
+        let verdict = same(lines.next().unwrap_or_default(), expected);
+        tester.report.case("program small_gates: lines", verdict, || format!("line {}", at + 1));
+    }
+    let behind: String = lines.collect();
+    tester.report.case(nothing_else, same(&behind, ""), || "behind the last line".to_string());
 }
 
 /// The program prints the needs that the reference lists.
@@ -91,15 +109,19 @@ fn varied_bytes(random: &mut Random, draft: &Draft) -> Vec<u8> {
     file
 }
 
-/// What the program writes; it must end by itself, with success. It may leave a file that is too long unread, so a failed
-/// write is no error.
+/// What the program writes to its standard output; it must end by itself, with success, and with nothing on its standard
+/// error. It may leave a file that is too long unread, so a failed write is no error.
 fn output(program: &str, file: &[u8]) -> Result<Vec<u8>> {
-    let mut child = Command::new(program).stdin(Stdio::piped()).stdout(Stdio::piped()).spawn()?;
+    let mut child =
+        Command::new(program).stdin(Stdio::piped()).stdout(Stdio::piped()).stderr(Stdio::piped()).spawn()?;
     if let Some(mut input) = child.stdin.take() {
         let _ = input.write_all(file);
     }
     let ended = child.wait_with_output()?;
-    if ended.status.success() {
+    let said = String::from_utf8_lossy(&ended.stderr);
+    if !said.is_empty() {
+        Err(Error::other(format!("{}, {said:?} on standard error", ended.status)))
+    } else if ended.status.success() {
         Ok(ended.stdout)
     } else {
         Err(Error::other(ended.status.to_string()))

@@ -1,9 +1,10 @@
-// What the programs plan, plan_table, check_table, show_table and implied_needs do. Each gives the number of the question that said no, as it printed it; 0
+// What the programs plan, plan_table, check_table, show_table, implied_needs and small_gates do. Each but the last gives the number of the question that said no, as it printed it; 0
 // where none did, or where a file could not be read or written.
 //
 // A job file of more than 16,384 bytes fills its buffer, and is refused by question 2, whatever follows. A table file has at most 1,222
 // bytes: one that fills a buffer of 4,096 is refused by question 14.
 mod grid;
+mod lines;
 mod pairs;
 mod report;
 
@@ -15,10 +16,12 @@ use libc::STDERR_FILENO;
 use libc::STDIN_FILENO;
 use libc::STDOUT_FILENO;
 ghost use mathlib.Core.Path.{_≡_};
+ghost use mathlib.Core.Bool.{true};
 ghost use mathlib.Core.Logic.{_⊎_};
 ghost use Prim.Native.Nat.{_≤_};
 ghost use Rattle.gate.specs.Numbers.{plannedNumber, verdictNumber};
 ghost use Rattle.implied.specs.Listing.{listedNumber};
+ghost use Rattle.small.specs.Lines.{allAgreed};
 
 // The line of a refusal; gives its number.
 fn print_refused(number: u8) -> u8
@@ -182,4 +185,19 @@ pub fn implied_needs() -> u8
     let n = io::read_full(STDIN_FILENO, &mut file);
     let l = implied::implied_needs(&file[..n], &mut list);
     print_listed(l, &list)
+}
+
+// Prints the lines of small gates, three numbers of the list each; says whether the planner gives the same for each.
+pub fn print_gates(list: &[u16]) -> bool
+    ensures { λ r. ⌜ r ≡ allAgreed (now (list .entry)) ⌝ }
+{
+    lines::print(list)
+}
+
+// Prints the line of every small gate; says whether the planner gives the same for each.
+pub fn small_gates() -> bool
+    ensures { λ r. ⌜ r ≡ true ⌝ }
+{
+    let list = small::small_gates();
+    lines::print(&list)
 }

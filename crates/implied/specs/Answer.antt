@@ -2,27 +2,25 @@
 use mathlib.Core.Path.{_≡_, refl, sym, ap, ap₂, _∙_}
 use mathlib.Core.Logic.{_⊎_}
 use mathlib.Core.Bool.{true, false}
-use mathlib.Core.List.{List, _++_, map}
-use Prim.Native.Nat.{ℕ, zero, suc, _+_, _-_, _/_, _≤_, _<_}
+use mathlib.Core.List.{List}
+use Prim.Native.Nat.{ℕ, _/_, _≤_, _<_}
 use native.Mathlib.Omega.{arith}
 use lib.ListN.{length, replicate}
 use lib.Dec.{leb}
 use Rattle.rules.specs.Sizes.{pairsSize}
-use Rattle.rules.specs.Basics.{at, range}
+use Rattle.rules.specs.Basics.{at}
 use Rattle.rules.specs.Fields.{Answer, refused, got, ask, after, numberOf}
 use Rattle.rules.specs.Needs.{Need, NeedsIn, circleFree}
 use Rattle.rules.specs.JobFile.{JobFile, readFile}
-use Rattle.rules.specs.Implied.{impliedTakers, impliedFrom, impliedNeeds, impliedIn, Listing, pairNumbers, listed, listImplied}
+use Rattle.rules.specs.Implied.{impliedNeeds, impliedIn, Listing, pairNumbers, listed, listImplied}
 use Rattle.laws.specs.Tests.{T-true, T-leb, choose-yes, choose-no}
-use Rattle.laws.specs.Lists.{filter-same}
-use Rattle.laws.specs.Counting.{range-below}
+use Rattle.laws.specs.Writing.{put, put-front}
 use Rattle.laws.specs.Numbers.{bytes-all}
 use Rattle.laws.specs.Fields.{number-refused}
 use Rattle.laws.specs.JobFile.{readable, needs-in}
 use Rattle.laws.specs.Refusals.{read-got, implied-most}
 use Rattle.laws.specs.Circles.{circle-free}
-use Rattle.laws.specs.Implied.{pairs-append, pairs-length, list-fits}
-use Rattle.jobset.specs.Sets.{setAt}
+use Rattle.laws.specs.Implied.{pairs-length, list-fits}
 use Rattle.jobset.specs.Arrays.{GiversAre}
 use Rattle.jobfile.specs.declared.Counts.{Counts}
 use Rattle.jobfile.specs.Reading.{stateOf, Held, Reads}
@@ -32,30 +30,10 @@ use Rattle.windows.specs.LevelLaws.{levels-ok}
 use Rattle.windows.specs.Windows.{table, levelSet}
 use Rattle.implied.specs.declared.Listed.{Listed}
 use Rattle.implied.specs.declared.Listed.the-variants.{Pairs, Refused}
-use Rattle.implied.specs.Reach.{reachEach, fromTop, impliedSet}
-use Rattle.implied.specs.ReachLaws.{Takers, Right, all-right, implied-member}
-use Rattle.implied.specs.Listing.{put, takersOf, rowNumbers, rowsNumbers, listingOf, listedNumber}
-use Rattle.implied.specs.ListingLaws.{put-front}
-
--- ---- the rows are the rules' list
-
-module _ {n : ℕ} {needs : List Need} {takers : List ℕ} (t : Takers n needs takers) (reach : List ℕ) (right : (i : ℕ) → i < n → Right n needs reach i) where
-  -- the takers of one giver
-  row-is : (g : ℕ) → g < n → takersOf (impliedSet (setAt takers (63 - g)) reach) n 0 ≡ impliedTakers n needs g
-  unfolding takersOf impliedTakers
-  row-is g h = filter-same _ _ (range n 0) (λ k m. implied-member t reach right g k h (range-below n k .0 m))
-
-  -- the pairs of some givers, and of all
-  rows-from : (c g : ℕ) → g + c ≤ n → rowsNumbers takers reach n c g ≡ pairNumbers (impliedFrom n needs c g)
-  unfolding rowsNumbers impliedFrom rowNumbers pairNumbers
-  rows-from zero g h = refl
-  rows-from (suc c) g h =
-      ap₂ (λ (x y : List ℕ). x ++ y) (ap (rowNumbers g) (row-is g (omega arith))) (rows-from c (suc g) (omega arith))
-      ∙ sym (pairs-append (map (λ k. (g, k)) (impliedTakers n needs g)) (impliedFrom n needs c (suc g)))
-
-  rows-are : rowsNumbers takers reach n n 0 ≡ pairNumbers (impliedNeeds n needs)
-  unfolding impliedNeeds
-  rows-are = rows-from n 0 (omega arith)
+use Rattle.implied.specs.Reach.{reachEach, fromTop}
+use Rattle.implied.specs.ReachLaws.{Takers, all-right}
+use Rattle.implied.specs.Listing.{rowsNumbers, listingOf, listedNumber}
+use Rattle.implied.specs.ListingLaws.{rows-are}
 
 -- ---- the ways out
 
@@ -149,7 +127,7 @@ module _ {file list : List ℕ} {F : Counts} {offsets givers takers : List ℕ} 
       reach = reachEach takers (fromTop (table (levelSet (levels .level) n)) 66) (replicate 64 0)
 
       abbrev rows : List ℕ
-      rows = rowsNumbers takers reach n n 0
+      rows = rowsNumbers takers reach n
 
       -- they are the rules' list, and there is room for them
       rows-is : rows ≡ pairNumbers (impliedNeeds n needs)

@@ -1,8 +1,7 @@
 -- What the functions that write the list give. Assumes nothing.
-use mathlib.Core.List.{List, [], _∷_, _++_, map}
-use Prim.Native.Nat.{ℕ, zero, suc, _+_, _-_}
-use lib.ListN.{set}
-use Rattle.rules.specs.Basics.{filter, range}
+use mathlib.Core.List.{List, [], _∷_}
+use Prim.Native.Nat.{ℕ, _-_}
+use Rattle.rules.specs.Basics.{choose, range, joined}
 use Rattle.rules.specs.Fields.{refused, got}
 use Rattle.rules.specs.Implied.{Listing, pairNumbers}
 use Rattle.jobset.specs.declared.Set.{Set}
@@ -11,24 +10,21 @@ use Rattle.implied.specs.declared.Listed.{Listed}
 use Rattle.implied.specs.declared.Listed.the-variants.{Pairs, Refused}
 use Rattle.implied.specs.Reach.{impliedSet}
 
--- the entries xs, written one after the other from entry i on
-unfoldable pub put : ℕ → List ℕ → List ℕ → List ℕ
-put i [] l = l
-put i (x ∷ xs) l = put (i + 1) xs (set l i x)
+-- the pair of giver g with taker k, where the set has k
+abbrev pub pairIn : ℕ → Set → ℕ → List ℕ
+pairIn g s k = choose (member s (63 - k)) (pairNumbers ((g, k) ∷ [])) []
 
--- of c jobs from k up those in the set, in rising order
-unfoldable pub takersOf : Set → ℕ → ℕ → List ℕ
-takersOf s c k = filter (λ j. member s (63 - j)) (range c k)
+-- a row: the pairs of giver g with the takers in a set, of n jobs, in rising order
+abbrev pub rowNumbers : ℕ → Set → ℕ → List ℕ
+rowNumbers g s n = joined (pairIn g s) (range n 0)
 
--- the pairs of giver g with these takers
-unfoldable pub rowNumbers : ℕ → List ℕ → List ℕ
-rowNumbers g ks = pairNumbers (map (λ k. (g, k)) ks)
+-- the row of giver g with the takers whose need follows, by the takers of each job and by what each job reaches
+abbrev pub impliedRow : List ℕ → List ℕ → ℕ → ℕ → List ℕ
+impliedRow takers reach n g = rowNumbers g (impliedSet (setAt takers (63 - g)) reach) n
 
--- the pairs of c givers from g up, of n jobs
-unfoldable pub rowsNumbers : List ℕ → List ℕ → ℕ → ℕ → ℕ → List ℕ
-rowsNumbers takers reach n zero g = []
-rowsNumbers takers reach n (suc c) g =
-    rowNumbers g (takersOf (impliedSet (setAt takers (63 - g)) reach) n 0) ++ rowsNumbers takers reach n c (suc g)
+-- the rows of all givers, in rising order
+abbrev pub rowsNumbers : List ℕ → List ℕ → ℕ → List ℕ
+rowsNumbers takers reach n = joined (impliedRow takers reach n) (range n 0)
 
 -- an answer, with the list that it leaves
 unfoldable pub listingOf : Listed → List ℕ → Listing

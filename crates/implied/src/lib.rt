@@ -4,12 +4,13 @@
 use jobset::Set;
 ghost use mathlib.Core.Path.{_≡_};
 ghost use mathlib.Core.List.{[], _∷_};
-ghost use Prim.Native.Nat.{_+_, _-_, _≤_, _<_};
+ghost use Prim.Native.Nat.{_+_, _≤_, _<_};
 ghost use lib.ListN.{length, replicate};
-ghost use Rattle.rules.specs.Implied.{listImplied};
+ghost use Rattle.rules.specs.Implied.{pairNumbers, listImplied};
+ghost use Rattle.laws.specs.Writing.{put};
 ghost use Rattle.jobset.specs.Sets.{empty, members};
 ghost use Rattle.implied.specs.Reach.{gather, reachEach, fromTop, impliedSet};
-ghost use Rattle.implied.specs.Listing.{put, takersOf, rowNumbers, rowsNumbers, listingOf};
+ghost use Rattle.implied.specs.Listing.{rowNumbers, rowsNumbers, listingOf};
 
 // A list of so many pairs; or the number of the question that said no.
 pub enum Listed {
@@ -73,7 +74,7 @@ fn implied_takers(takers: Set, reach: &[u64; 64]) -> Set
 // A pair, as the file numbers its jobs, at entry `at` of the list.
 fn put_pair(giver: usize, taker: usize, list: &mut [u16], at: usize)
     requires { ⌜ (giver < 64) × (taker < 64) × (at + 2 ≤ length (now list)) ⌝ }
-    ensures { λ _. ⌜ now (list .exit) ≡ put at (rowNumbers giver (taker ∷ [])) (now (list .entry)) ⌝ }
+    ensures { λ _. ⌜ now (list .exit) ≡ put at (pairNumbers ((giver, taker) ∷ [])) (now (list .entry)) ⌝ }
 {
     list[at] = (giver + 1) as u16;
     list[at + 1] = (taker + 1) as u16;
@@ -81,9 +82,9 @@ fn put_pair(giver: usize, taker: usize, list: &mut [u16], at: usize)
 
 // The pairs of a giver with each of these takers, in rising order, from entry `first` of the list on; gives the entry behind them.
 fn put_row(giver: usize, takers: Set, jobs: usize, list: &mut [u16], first: usize) -> usize
-    requires { ⌜ (jobs ≤ 64) × (giver < 64) × (first + length (rowNumbers giver (takersOf takers jobs 0)) ≤ length (now list)) ⌝ }
-    ensures size { λ r. ⌜ r ≡ first + length (rowNumbers giver (takersOf takers jobs 0)) ⌝ }
-    ensures entries { λ _. ⌜ now (list .exit) ≡ put first (rowNumbers giver (takersOf takers jobs 0)) (now (list .entry)) ⌝ }
+    requires { ⌜ (jobs ≤ 64) × (giver < 64) × (first + length (rowNumbers giver takers jobs) ≤ length (now list)) ⌝ }
+    ensures size { λ r. ⌜ r ≡ first + length (rowNumbers giver takers jobs) ⌝ }
+    ensures entries { λ _. ⌜ now (list .exit) ≡ put first (rowNumbers giver takers jobs) (now (list .entry)) ⌝ }
 {
     let mut next = first;
     let mut k = 0;
@@ -100,9 +101,9 @@ fn put_row(giver: usize, takers: Set, jobs: usize, list: &mut [u16], first: usiz
 
 // The pairs of all givers, in rising order; gives the entry behind them.
 fn put_rows(takers: &[u64], reach: &[u64; 64], jobs: usize, list: &mut [u16]) -> usize
-    requires { ⌜ (jobs ≤ 64) × (64 ≤ length (now takers)) × (length (rowsNumbers (now takers) (now reach) jobs jobs 0) ≤ length (now list)) ⌝ }
-    ensures size { λ r. ⌜ r ≡ length (rowsNumbers (now (takers .entry)) (now (reach .entry)) jobs jobs 0) ⌝ }
-    ensures entries { λ _. ⌜ now (list .exit) ≡ put 0 (rowsNumbers (now (takers .entry)) (now (reach .entry)) jobs jobs 0) (now (list .entry)) ⌝ }
+    requires { ⌜ (jobs ≤ 64) × (64 ≤ length (now takers)) × (length (rowsNumbers (now takers) (now reach) jobs) ≤ length (now list)) ⌝ }
+    ensures size { λ r. ⌜ r ≡ length (rowsNumbers (now (takers .entry)) (now (reach .entry)) jobs) ⌝ }
+    ensures entries { λ _. ⌜ now (list .exit) ≡ put 0 (rowsNumbers (now (takers .entry)) (now (reach .entry)) jobs) (now (list .entry)) ⌝ }
 {
     let mut next = 0;
     let mut giver = 0;

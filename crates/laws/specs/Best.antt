@@ -105,7 +105,7 @@ prefixed-mem⁻¹ P (suc k) ls f v m = go (List·Memᴰ·append-cases (map (λ l
     go (inl w) r = map-mem⁻¹ P (λ l. k ∷ l) ls (λ u. f k u (omega arith)) v w
     go (inr w) r = r w
 
-start-lists-all : (n L : ℕ) (u : List ℕ) → Fits n L u → List·Memᴰ u (startLists n L)
+pub start-lists-all : (n L : ℕ) (u : List ℕ) → Fits n L u → List·Memᴰ u (startLists n L)
 unfolding startLists
 start-lists-all zero L [] f = List·Memᴰ·head refl
 start-lists-all zero L (x ∷ u) f = absurd (omega (arith, f .len))
@@ -113,7 +113,7 @@ start-lists-all (suc n) L [] f = absurd (omega (arith, f .len))
 start-lists-all (suc n) L (x ∷ u) f =
     prefixed-mem L (startLists n L) x u (f .below 0 (omega arith)) (start-lists-all n L u record { len = omega (arith, f .len); below = λ i h. f .below (suc i) (omega arith) })
 
-start-lists-fit : (n L : ℕ) (u : List ℕ) → List·Memᴰ u (startLists n L) → Fits n L u
+pub start-lists-fit : (n L : ℕ) (u : List ℕ) → List·Memᴰ u (startLists n L) → Fits n L u
 unfolding startLists
 start-lists-fit zero L u m = go (List·Memᴰ·cases-cons m)
   where

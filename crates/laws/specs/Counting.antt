@@ -1,14 +1,15 @@
 -- Lists without repeats, the pigeonhole law, counts and maxima. Assumes nothing.
-use mathlib.Core.Path.{_≡_, refl, sym, ap, _∙_}
+use mathlib.Core.Path.{_≡_, refl, sym, ap, subst, _∙_}
 use mathlib.Core.Logic.{_⊎_, inl, inr, ⊎-elim, _↔_}
-use mathlib.Core.Bool.{Bool}
+use mathlib.Core.Bool.{Bool, true, false}
 use mathlib.Core.List.{List, [], _∷_, _++_, map, List·Memᴰ, List·Memᴰ·head, List·Memᴰ·tail, List·Memᴰ·cases-cons, List·Memᴰ·not-nil, List·Memᴰ·append-cases, Memᴰ·append-left, Memᴰ·append-right}
 use Prim.Native.Nat.{ℕ, zero, suc, _+_, _≤_, _<_, max}
 use native.Mathlib.Omega.{arith}
 use native.Mathlib.Decide.{ℕ-discrete}
 use lib.ListN.{length, length-map, length-append}
 use lib.Dec.{T}
-use Rattle.rules.specs.Basics.{at, range, filter, count, most, largest, Distinct}
+use Rattle.rules.specs.Basics.{choose, at, all, range, filter, count, most, largest, Distinct}
+use Rattle.laws.specs.Tests.{T-all, bool-ext}
 use Rattle.laws.specs.Lists.{Rising, range-in, range-all, range-rising, filter-mem, filter-mem⁻¹, filter-rising, map-mem⁻¹}
 
 pub rising-distinct : (xs : List ℕ) → Rising xs → Distinct xs
@@ -71,13 +72,29 @@ distinct-append (x ∷ xs) ys d e h = (
   distinct-append xs ys (d .1) e (λ z m. h z (List·Memᴰ·tail m)),
 )
 
+-- in a list without repeats an entry does not stand before itself
+pub distinct-before : {A : Type 0} (xs : List A) (x : A) (ys : List A) → Distinct (xs ++ x ∷ ys) → ¬ (List·Memᴰ x xs)
+distinct-before [] x ys u m = List·Memᴰ·not-nil m
+distinct-before (y ∷ xs) x ys u m =
+    ⊎-elim (λ e. u .0 (Memᴰ·append-right xs (List·Memᴰ·head (sym e)))) (λ w. distinct-before xs x ys (u .1) w) (List·Memᴰ·cases-cons m)
+
 -- a map that tells the entries apart keeps them distinct
-pub map-distinct : (f : ℕ → ℕ) (xs : List ℕ) → Distinct xs → ((i j : ℕ) → List·Memᴰ i xs → List·Memᴰ j xs → f i ≡ f j → i ≡ j) → Distinct (map f xs)
+pub map-distinct : {A B : Type 0} (f : A → B) (xs : List A) → Distinct xs → ((x y : A) → List·Memᴰ x xs → List·Memᴰ y xs → f x ≡ f y → x ≡ y)
+    → Distinct (map f xs)
 map-distinct f [] d h = tt
 map-distinct f (x ∷ xs) d h = (
   λ m. map-mem⁻¹ (λ y. y ≡ f x → ⊥) f xs (λ i w e. d .0 (rw (h x i (List·Memᴰ·head refl) (List·Memᴰ·tail w) (sym e)) w)) (f x) m refl,
   map-distinct f xs (d .1) (λ i j m w e. h i j (List·Memᴰ·tail m) (List·Memᴰ·tail w) e),
 )
+
+pub filter-distinct : {A : Type 0} (p : A → Bool) (xs : List A) → Distinct xs → Distinct (filter p xs)
+unfolding filter choose
+filter-distinct p [] d = tt
+filter-distinct p (x ∷ xs) d = go (p x) (filter-distinct p xs (d .1))
+  where
+    go : (b : Bool) → Distinct (filter p xs) → Distinct (choose b (x ∷ filter p xs) (filter p xs))
+    go true r = (λ m. d .0 (filter-mem⁻¹ p xs x m .0), r)
+    go false r = r
 
 -- ---- how many i below n pass p
 
@@ -96,6 +113,13 @@ passing-distinct p n = rising-distinct (passing p n) (filter-rising p (range n 0
 
 pub range-below : (n i : ℕ) → List·Memᴰ i (range n 0) ↔ (i < n)
 range-below n i = (λ m. omega (arith, range-in n 0 i m), λ h. range-all n 0 i (omega arith) (omega arith))
+
+-- of two tests that agree below n, both hold of all numbers below n, or neither does
+pub all-same : (n : ℕ) (p q : ℕ → Bool) → ((i : ℕ) → i < n → p i ≡ q i) → all p (range n 0) ≡ all q (range n 0)
+all-same n p q h =
+    bool-ext (all p (range n 0)) (all q (range n 0))
+    (λ t. T-all q (range n 0) .1 (λ i m. subst T (h i (range-below n i .0 m)) (T-all p (range n 0) .0 t i m)))
+    (λ t. T-all p (range n 0) .1 (λ i m. subst T (sym (h i (range-below n i .0 m))) (T-all q (range n 0) .0 t i m)))
 
 pub length-range : (k i : ℕ) → length (range k i) ≡ k
 unfolding range
@@ -199,3 +223,11 @@ pub largest-lt : (t : List ℕ) (C : ℕ) → 0 < C → ((i : ℕ) → i < lengt
 unfolding largest
 largest-lt [] C p h = p
 largest-lt (x ∷ t) C p h = omega (arith, h 0 (omega arith), largest-lt t C p (λ i k. h (suc i) (omega arith)))
+
+-- lists with the same entries, up to zeros behind, have the same largest
+pub largest-same : (s t : List ℕ) → ((i : ℕ) → at s i ≡ at t i) → largest s ≡ largest t
+largest-same s t h = omega (
+  arith,
+  largest-lt s (suc (largest t)) (omega arith) (λ i _. omega (arith, h i, at-most t i)),
+  largest-lt t (suc (largest s)) (omega arith) (λ i _. omega (arith, h i, at-most s i)),
+)

@@ -11,7 +11,7 @@ use Rattle.rules.specs.Needs.{Need, givesb, NeedsIn}
 use Rattle.rules.specs.Program.{givenBy, takenBy, tally}
 use Rattle.laws.specs.Tests.{T-eqb, tests}
 use Rattle.laws.specs.Lists.{map-mem, filter-mem, filter-mem⁻¹, filter-rising, range-rising}
-use Rattle.laws.specs.Counting.{rising-distinct, pigeonhole, passing, passing-in}
+use Rattle.laws.specs.Counting.{rising-distinct, pigeonhole, filter-distinct, passing, passing-in}
 use Rattle.laws.specs.Program.{gives-is}
 
 tally-filter : (p : Need → Bool) (ds : List Need) → tally p ds ≡ length (filter p ds)
@@ -21,15 +21,6 @@ tally-filter p (d ∷ ds) = go (p d) (tally-filter p ds)
   where
     go : (b : Bool) → tally p ds ≡ length (filter p ds) → choose b (suc (tally p ds)) (tally p ds) ≡ length (choose b (d ∷ filter p ds) (filter p ds))
     go true r = ap suc r
-    go false r = r
-
-filter-distinct : (p : Need → Bool) (ds : List Need) → Distinct ds → Distinct (filter p ds)
-unfolding filter choose
-filter-distinct p [] u = tt
-filter-distinct p (d ∷ ds) u = go (p d) (filter-distinct p ds (u .1))
-  where
-    go : (b : Bool) → Distinct (filter p ds) → Distinct (choose b (d ∷ filter p ds) (filter p ds))
-    go true r = (λ m. u .0 (filter-mem⁻¹ p ds d m .0), r)
     go false r = r
 
 -- the needs that pass p are the needs `with j`, one for each j below n that passes q

@@ -9,10 +9,10 @@ use borrow.Author.Tests.{lt-ltb, le-ltb}
 use lib.ListN.{length, drop, length-take, length-drop}
 use lib.Dec.{T, ltb}
 use Rattle.rules.specs.Basics.{choose}
-use Rattle.rules.specs.Fields.{Answer, refused, got, numberOf, ask, after, part, fieldEnd, value, whole, overFields}
+use Rattle.rules.specs.Fields.{Answer, refused, got, numberOf, ask, after, part, field, fieldEnd, value, whole, overFields}
 use Rattle.rules.specs.Numbers.{Bytes}
 use Rattle.laws.specs.Tests.{tests}
-use Rattle.laws.specs.Numbers.{bytes-take, bytes-drop}
+use Rattle.laws.specs.Numbers.{bytes-take, bytes-drop, word-split}
 
 -- ---- answers
 
@@ -96,6 +96,11 @@ length-value bs a h = let w = whole-is bs a .0 h in simp (length-take, length-dr
 pub bytes-value : (bs : List ℕ) (a : ℕ) → Bytes bs → Bytes (value bs a)
 unfolding value part
 bytes-value bs a h = bytes-take (fieldEnd bs a - (a + 3)) (drop (a + 3) bs) (bytes-drop (a + 3) bs h)
+
+-- a field is a byte string where its tag is a byte and its value a byte string
+pub bytes-field : (tag : ℕ) (v : List ℕ) → tag < 256 → length v < 65536 → Bytes v → Bytes (field tag v)
+unfolding field
+bytes-field tag v t short b = let w = word-split (length v) short in (t, (w .1, (w .2, b)))
 
 -- ---- all fields
 

@@ -31,27 +31,6 @@ range-end : (n i : ℕ) → n ≤ i → rangeFrom n i ≡ []
 unfolding rangeFrom range
 range-end n i h = let e : n - i ≡ 0 = omega arith in rw e refl
 
--- p holds of the numbers from i to before n
-unfoldable pub allFrom : (ℕ → Bool) → ℕ → ℕ → Bool
-allFrom p n i = all p (rangeFrom n i)
-
-module _ (p : ℕ → Bool) (n : ℕ) where
-  pub all-start : allFrom p n 0 ≡ all p (range n 0)
-  unfolding allFrom
-  all-start = ap (all p) (range-start n)
-
-  pub all-no : (i : ℕ) → i < n → p i ≡ false → allFrom p n i ≡ false
-  unfolding allFrom all
-  all-no i h e = rw (range-next n i h, e) refl
-
-  pub all-yes : (i : ℕ) → i < n → p i ≡ true → allFrom p n i ≡ allFrom p n (i + 1)
-  unfolding allFrom all
-  all-yes i h e = rw (range-next n i h, e) refl
-
-  pub all-end : (i : ℕ) → n ≤ i → allFrom p n i ≡ true
-  unfolding allFrom all
-  all-end i h = rw (range-end n i h) refl
-
 -- p holds of one of the numbers from i to before n
 unfoldable pub anyFrom : (ℕ → Bool) → ℕ → ℕ → Bool
 anyFrom p n i = any p (rangeFrom n i)

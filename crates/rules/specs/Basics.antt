@@ -1,6 +1,6 @@
 -- The words that the rules are written in: a choice, tests over lists, counts. Assumes nothing.
 use mathlib.Core.Bool.{Bool, true, false, _&&_, _||_}
-use mathlib.Core.List.{List, [], _∷_, List·Memᴰ}
+use mathlib.Core.List.{List, [], _∷_, _++_, List·Memᴰ}
 use Prim.Native.Nat.{ℕ, zero, suc, max}
 use lib.ListN.{length, getD}
 use lib.Dec.{eqb}
@@ -47,6 +47,11 @@ range (suc k) i = i ∷ range k (suc i)
 unfoldable pub tabulate : {A : Type 0} → (ℕ → A) → ℕ → ℕ → List A
 tabulate f zero i = []
 tabulate f (suc k) i = f i ∷ tabulate f k (suc i)
+
+-- f x for each entry x, one behind the other
+unfoldable pub joined : {A : Type 0} → (A → List ℕ) → List A → List ℕ
+joined f [] = []
+joined f (x ∷ xs) = f x ++ joined f xs
 
 -- how many i below n pass p
 unfoldable pub count : (ℕ → Bool) → ℕ → ℕ

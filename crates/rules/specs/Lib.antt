@@ -12,3 +12,4 @@ pub mod Boards
 pub mod Table
 pub mod Answers
 pub mod Implied
+pub mod SmallGates

@@ -1,20 +1,20 @@
 -- The ways out of the check, by what it has tested. Assumes nothing.
-use mathlib.Core.Path.{_≡_, refl, sym, ap, ap₂, subst, _∙_}
-use mathlib.Core.Bool.{Bool, true, false}
+use mathlib.Core.Path.{_≡_, refl, sym, ap, ap₂, _∙_}
+use mathlib.Core.Bool.{true, false}
 use mathlib.Core.List.{List}
 use Prim.Native.Nat.{ℕ, _+_, _≤_, _<_}
 use native.Mathlib.Omega.{arith}
 use lib.ListN.{length, take, drop, length-drop, length-map}
 use lib.Dec.{T, leb, eqb}
-use Rattle.rules.specs.Basics.{at, all, range}
+use Rattle.rules.specs.Basics.{at}
 use Rattle.rules.specs.Fields.{refused, got, ask, after, value}
 use Rattle.rules.specs.Needs.{Need, NeedsIn, circleFree}
 use Rattle.rules.specs.JobFile.{JobFile, nthJob, nameOk, mostBoards, jobOf, readFile}
 use Rattle.rules.specs.Table.{nthRow, starts, boardsOf, rowOf, decode, labelled, needsKept, rowStart}
 use Rattle.rules.specs.Answers.{check}
-use Rattle.laws.specs.Tests.{tests, T-and, T-leb, T-all, bool-ext}
+use Rattle.laws.specs.Tests.{tests, T-and, T-leb}
 use Rattle.laws.specs.Lists.{nth-mem, tabulate-at}
-use Rattle.laws.specs.Counting.{range-below}
+use Rattle.laws.specs.Counting.{all-same}
 use Rattle.laws.specs.Fields.{ask-yes, ask-no, number-refused}
 use Rattle.laws.specs.JobFile.{Readable, readable}
 use Rattle.laws.specs.Check.{q15, q16, q18}
@@ -34,12 +34,6 @@ use Rattle.table.specs.declared.Verdict.the-variants as verdict
 use Rattle.rows.specs.declared.Rows as table-rows
 use Rattle.jobfile.specs.declared.Counts.{Counts}
 use Rattle.windows.specs.declared.JobLevels.{JobLevels}
-
-all-same : (n : ℕ) (p q : ℕ → Bool) → ((i : ℕ) → i < n → p i ≡ q i) → all p (range n 0) ≡ all q (range n 0)
-all-same n p q h =
-    bool-ext (all p (range n 0)) (all q (range n 0))
-    (λ t. T-all q (range n 0) .1 (λ i m. subst T (h i (range-below n i .0 m)) (T-all p (range n 0) .0 t i m)))
-    (λ t. T-all p (range n 0) .1 (λ i m. subst T (sym (h i (range-below n i .0 m))) (T-all q (range n 0) .0 t i m)))
 
 module _ (file table : List ℕ) where
   refused-by : (q : ℕ) → check file table ≡ refused q → verdict.Refused q ≡ verdictOf (check file table)

@@ -1,6 +1,7 @@
-//! Document 01, as request 13 of document 02 changes it, and the list of request 5, written a second time, to compare
-//! the compiled library and the programs with. It shares nothing with them: own reading, own search, own check and lookup,
-//! own list. Jobs are counted from 0 here and from 1 in files, tables and answers.
+//! Document 01, as request 13 of document 02 changes it, the list of request 5 and the small gates of request 14, written
+//! a second time, to compare the compiled library and the programs with. It shares nothing with them: own reading, own
+//! search, own check and lookup, own list, own small gates. Jobs are counted from 0 here and from 1 in files, tables and
+//! answers.
 
 pub mod boards;
 pub mod entries;
@@ -9,5 +10,6 @@ pub mod lists;
 pub mod needs;
 pub mod reading;
 pub mod search;
+pub mod small;
 pub mod table;
 pub mod text;

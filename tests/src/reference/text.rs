@@ -1,5 +1,6 @@
 //! What the programs print.
 
+use super::small::SmallGate;
 use super::table::Table;
 
 /// The text for an answer of the planner.
@@ -25,6 +26,11 @@ pub fn printed_needs(implied: &Result<Vec<(usize, usize)>, u8>) -> String {
         Ok(needs) => needs.iter().map(|(giver, taker)| format!("{} {}\n", giver + 1, taker + 1)).collect(),
         Err(number) => refusal(*number),
     }
+}
+
+/// The text for small gates: jobs, number and fewest slots, a line each.
+pub fn printed_gates(gates: &[SmallGate]) -> String {
+    gates.iter().map(|gate| format!("{} {} {}\n", gate.jobs, gate.number, gate.fewest_slots)).collect()
 }
 
 fn refusal(number: u8) -> String {

@@ -6,7 +6,7 @@ use native.Mathlib.Omega.{arith}
 use borrow.Author.Needs.{needs}
 use lib.ListN.{set, length-set}
 use Rattle.rules.specs.Implied.{pairNumbers}
-use Rattle.implied.specs.Listing.{put, rowNumbers}
+use Rattle.laws.specs.Writing.{put}
 use Rattle.implied.proofs.put_pair.Statement.{statement}
 use Rattle.implied.proofs.put_pair.Tie as tie
 
@@ -41,7 +41,7 @@ same-length : tie.Need-same-length
 same-length c = search needs
 
 returns : tie.Need-returns
-unfolding put rowNumbers pairNumbers
+unfolding put pairNumbers
 returns c =
     let a = c .args in
     ap₂ (λ (x y : ℕ). set (set (a .list .now) (a .at) x) (a .at + 1) y) (add-one (a .giver)) (add-one (a .taker))

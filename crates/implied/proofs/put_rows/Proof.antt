@@ -1,18 +1,19 @@
 -- `implied::put_rows` meets its contract. The rows of the givers from `giver` up are still to come, from entry `next` on. Assumes nothing.
 use Prim.Native.Nat.{_-_}
 use native.Mathlib.Omega.{arith}
-use Rattle.implied.specs.ListingLaws.{RowsSoFar, rows-start, rows-room, rows-put, rows-size, rows-end}
+use Rattle.laws.specs.Writing.{WrittenSoFar, so-far-start, so-far-room, so-far-put, so-far-size, so-far-end}
+use Rattle.implied.specs.Listing.{impliedRow}
 use Rattle.implied.proofs.put_rows.Statement.{statement}
 use Rattle.implied.proofs.put_rows.Tie as tie
 
 abbrev Inv-loop : tie.InvT-loop
-Inv-loop takers reach jobs list₀ next₀ giver₀ list next giver = RowsSoFar takers reach jobs list₀ giver next list
+Inv-loop takers reach jobs list₀ next₀ giver₀ list next giver = WrittenSoFar (impliedRow takers reach jobs) jobs 0 list₀ giver next list
 
 abbrev μ-loop : tie.MeasureT-loop
 μ-loop takers reach jobs list₀ next₀ giver₀ list next giver = jobs - giver
 
 loop-holds : tie.Need-loop-holds Inv-loop μ-loop
-loop-holds c = let a = c .before .before .args in rows-start (a .takers .now) (a .reach .now) (a .jobs) (a .list .now)
+loop-holds c = let a = c .before .before .args in so-far-start (impliedRow (a .takers .now) (a .reach .now) (a .jobs)) (a .jobs) 0 (a .list .now)
 
 sub-t10 : tie.Need-sub-t10 Inv-loop μ-loop
 sub-t10 c = omega arith
@@ -29,8 +30,7 @@ implied-takers-requires c κs = tt
 put-row-requires : tie.Need-put-row-requires Inv-loop μ-loop
 put-row-requires c κs =
     let l = c .before .before .before .before .loop in
-    let pre = c .before .before .before .before .before .before .before .pre in
-    rw (c .before .implied-takers .ensures) (omega arith, omega arith, rows-room (l .inv) (c .before .before .before .loop-test .taken) (pre .2))
+    rw (c .before .implied-takers .ensures) (omega arith, omega arith, so-far-room (l .inv) (c .before .before .before .loop-test .taken) (omega arith))
 
 add-giver : tie.Need-add-giver Inv-loop μ-loop
 add-giver c = omega arith
@@ -43,13 +43,13 @@ loop-again c =
     let l = c .before .before .before .before .before .before .before .loop in
     let p = c .before .before .put-row in
     let w = rw (c .before .before .before .before .implied-takers .ensures) at (p .ensures) in
-    rows-put (l .inv) (c .before .before .before .before .before .before .loop-test .taken) (p .result) _ (w .0) (w .1)
+    so-far-put (l .inv) (c .before .before .before .before .before .before .loop-test .taken) (p .result) _ (w .0) (w .1)
 
 same-length : tie.Need-same-length Inv-loop μ-loop
 same-length c = c .before .loop .inv .size
 
 returns : tie.Need-returns Inv-loop μ-loop
-returns c = (rows-size (c .before .loop .inv) (omega arith), rows-end (c .before .loop .inv) (omega arith))
+returns c = let s = c .before .loop .inv in (omega (arith, so-far-size s (omega arith)), so-far-end s (omega arith))
 
 pub put-rows-spec : {M : Type 1} → statement M
 put-rows-spec =
