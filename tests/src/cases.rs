@@ -10,7 +10,7 @@ use crate::reference::reading::{read, JobFile, LONGEST_FILE, MOST_BOARDS};
 use crate::reference::search;
 use crate::reference::small::small_gates;
 use crate::reference::table::Table;
-use crate::report::shown;
+use crate::report::{shown, Of};
 use crate::stage::Verdict;
 use crate::tester::Tester;
 use std::fmt::Debug;
@@ -94,7 +94,9 @@ fn extra_jobs(tester: &mut Tester) {
     if let Some(verdict) = verdict {
         let shown = || files.each_ref().map(|file| shown(file)).join(", ");
         let label = &tester.label;
-        tester.report.case("extra jobs: what request 12 says", verdict, || format!("{label}, files {}", shown()));
+        tester
+            .report
+            .case(Of::Answer, "extra jobs: what request 12 says", verdict, || format!("{label}, files {}", shown()));
     }
 }
 
@@ -155,11 +157,17 @@ fn try_list(tester: &mut Tester, file: &[u8]) -> Vec<(usize, usize)> {
     let read_file = read(file).expect("a sound file");
     let implied = implied_needs(file).expect("a file without a circle");
     let searched = implied::by_search(read_file.jobs.len(), &read_file.needs);
-    striking_case(tester, "reference: closure and search", agree(&implied, &searched), file);
+    striking_case(tester, Of::Reference, "reference: closure and search", agree(&implied, &searched), file);
     let struck = implied::struck(file, &implied);
-    striking_case(tester, "reference: none is left", agree(&implied_needs(&struck), &Ok(Vec::new())), file);
+    striking_case(
+        tester,
+        Of::Reference,
+        "reference: none is left",
+        agree(&implied_needs(&struck), &Ok(Vec::new())),
+        file,
+    );
     let windows = agree(&read(&struck).map(|struck| windows_and_width(&struck)), &Ok(windows_and_width(&read_file)));
-    striking_case(tester, "reference: windows and width", windows, file);
+    striking_case(tester, Of::Reference, "reference: windows and width", windows, file);
     implied
 }
 
@@ -175,11 +183,11 @@ fn windows_and_width(file: &JobFile) -> (Vec<i32>, Vec<i32>, usize) {
 fn same_plan(tester: &mut Tester, file: &[u8], struck: &[u8]) -> Option<Result<Vec<u8>, u8>> {
     let planned = tester.plan("plan: grown files", file);
     let without = tester.plan("plan: struck files", struck);
-    striking_case(tester, "striking: the planner's answer", agree(&without, &planned), file);
+    striking_case(tester, Of::Answer, "striking: the planner's answer", agree(&without, &planned), file);
     for (checked, answer) in [(file, &without), (struck, &planned)] {
         if let Ok(table) = answer {
             let passes = tester.check("check: planned for the other file", checked, table);
-            striking_case(tester, "striking: planned tables pass", agree(&passes, &Ok(())), file);
+            striking_case(tester, Of::Answer, "striking: planned tables pass", agree(&passes, &Ok(())), file);
         }
     }
     (planned == without).then_some(planned)
@@ -194,7 +202,7 @@ fn same_check(tester: &mut Tester, file: &[u8], struck: &[u8], table: &[u8]) {
         let kind = checked.map_or_else(|number| format!("both refused {number}"), |()| "both pass".to_string());
         tester.report.answer("striking, the check", kind);
     }
-    striking_case(tester, "striking: the check's answer", verdict, file);
+    striking_case(tester, Of::Answer, "striking: the check's answer", verdict, file);
 }
 
 /// The planned table of a sound file, tables that are valid or valid for other most boards, and of each some that are
@@ -219,9 +227,9 @@ fn drawn_tables(
     drawn
 }
 
-fn striking_case(tester: &mut Tester, group: &'static str, verdict: Verdict, file: &[u8]) {
+fn striking_case(tester: &mut Tester, of: Of, group: &'static str, verdict: Verdict, file: &[u8]) {
     let label = &tester.label;
-    tester.report.case(group, verdict, || format!("{label}, file {}", shown(file)));
+    tester.report.case(of, group, verdict, || format!("{label}, file {}", shown(file)));
 }
 
 fn agree<T: PartialEq + Debug + ?Sized>(found: &T, expected: &T) -> Verdict {
@@ -235,7 +243,7 @@ fn agree<T: PartialEq + Debug + ?Sized>(found: &T, expected: &T) -> Verdict {
 fn same_answer(tester: &mut Tester, same: bool, file: &[u8]) {
     let verdict = if same { Ok(()) } else { Err("another answer without most boards".to_string()) };
     let label = &tester.label;
-    tester.report.case("most boards 8 are as none", verdict, || format!("{label}, file {}", shown(file)));
+    tester.report.case(Of::Answer, "most boards 8 are as none", verdict, || format!("{label}, file {}", shown(file)));
 }
 
 /// Files that get harder and harder to search, with limits at and near the fewest slots.
@@ -282,7 +290,7 @@ fn without_windows(tester: &mut Tester) {
     let starts = planned.ok().and_then(|table| starts_of(&table));
     let verdict = if starts == found { Ok(()) } else { Err(format!("planned {starts:?}, without windows {found:?}")) };
     let label = &tester.label;
-    tester.report.case("search without windows", verdict, || format!("{label}, file {}", shown(&file)));
+    tester.report.case(Of::Answer, "search without windows", verdict, || format!("{label}, file {}", shown(&file)));
 }
 
 fn limit_fits(limit: u8, jobs: u32) -> bool {
@@ -301,7 +309,7 @@ fn all_lists(tester: &mut Tester, file: &[u8], planned: Option<Vec<usize>>) {
     let best = lists::best_of_all(&graph, read.limit as usize, read.most_boards());
     let verdict = if planned == best { Ok(()) } else { Err(format!("planned {planned:?}, best of all {best:?}")) };
     let label = &tester.label;
-    tester.report.case("all start lists", verdict, || format!("{label}, file {}", shown(file)));
+    tester.report.case(Of::Answer, "all start lists", verdict, || format!("{label}, file {}", shown(file)));
 }
 
 /// Files with a wrong field or two.
@@ -351,7 +359,9 @@ fn lengths(tester: &mut Tester) {
 fn try_tables(tester: &mut Tester, file: &[u8], planned: &Result<Vec<u8>, u8>) {
     if let Ok(table) = planned {
         let checked = tester.check("check: planned tables", file, table);
-        tester.report.case("planned tables pass", checked.map_err(|number| number.to_string()), || shown(file));
+        tester
+            .report
+            .case(Of::Answer, "planned tables pass", checked.map_err(|number| number.to_string()), || shown(file));
         tester.lookups("lookup: planned tables", table);
     }
     if let Ok(read) = read(file) {
@@ -458,7 +468,9 @@ pub fn every_small_gate(tester: &mut Tester) {
             let slots = planned.ok().and_then(|table| Table::read(&table)).map(|table| table.slots as usize);
             let label = &tester.label;
             let verdict = agree(&slots, &Some(gate.fewest_slots));
-            tester.report.case("every small gate: fewest slots", verdict, || format!("{label}, file {}", shown(&file)));
+            tester.report.case(Of::Answer, "every small gate: fewest slots", verdict, || {
+                format!("{label}, file {}", shown(&file))
+            });
         }
     }
 }
@@ -480,6 +492,6 @@ pub fn program_p(tester: &mut Tester, seed: u64, count: u64) {
         let (words, program) =
             (lists::keeps_rules(&graph, &starts), lists::satisfies_p(draft.jobs.len(), &needs, &starts, slots));
         let verdict = if words == program { Ok(()) } else { Err(format!("in words {words}, as printed {program}")) };
-        tester.report.case("program P", verdict, || format!("needs {needs:?}, starts {starts:?}"));
+        tester.report.case(Of::Reference, "program P", verdict, || format!("needs {needs:?}, starts {starts:?}"));
     }
 }

@@ -1,6 +1,7 @@
 //! compare [SEED] [COUNT] [FIRST]: the named cases, all needs between few jobs, every small gate, and the generated files of a seed from index FIRST
 //! on; and, if GATE_PLAN, GATE_IMPLIED and GATE_SMALL name them, the planning program, the one that lists the needs that
-//! follow from others and the one that prints every small gate. Ends in 'N passed, M failed'.
+//! follow from others and the one that prints every small gate. The last two lines say how many of each kind passed, and
+//! 'N passed, M failed'.
 
 use gate_tests::{cases, paper, program, tester::Tester};
 use std::process::ExitCode;

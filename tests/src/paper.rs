@@ -9,7 +9,7 @@ use crate::reference::reading::read;
 use crate::reference::small::small_gates;
 use crate::reference::table::{Row, Table};
 use crate::reference::text::{printed, printed_gates, printed_needs};
-use crate::report::shown;
+use crate::report::{shown, Of};
 use crate::tester::Tester;
 
 /// What the planner answers: a refusal, or starts and boards.
@@ -40,12 +40,12 @@ pub fn run(tester: &mut Tester) {
         let read = read(&draft.bytes()).expect("a sound file");
         let found = Graph::new(read.jobs.len(), &read.needs).width(read.limit as i32);
         let verdict = if found == width { Ok(()) } else { Err(format!("width {found}, not {width}")) };
-        tester.report.case("named: width", verdict, || name.to_string());
+        tester.report.case(Of::Reference, "named: width", verdict, || name.to_string());
     }
     for (name, file, listed) in implied_cases() {
         let found = printed_needs(&implied_needs(&file));
         let verdict = if found == listed { Ok(()) } else { Err(found) };
-        tester.report.case("named: the reference's list", verdict, || name.to_string());
+        tester.report.case(Of::Reference, "named: the reference's list", verdict, || name.to_string());
     }
     named_small_gates(tester);
     printed_example(tester);
@@ -261,7 +261,7 @@ fn named_small_gates(tester: &mut Tester) {
     let ends = [1, 2, 3, 4, 572].map(|line| lines.get(line - 1).copied().unwrap_or_default());
     let right = counts == [1, 3, 25, 543] && ends == ["1 0 1", "2 0 1", "2 2 2", "2 4 2", "4 29456 4"];
     let verdict = if right { Ok(()) } else { Err(format!("{counts:?}, {ends:?}")) };
-    tester.report.case(group, verdict, || "how many, and the lines at the ends".to_string());
+    tester.report.case(Of::Reference, group, verdict, || "how many, and the lines at the ends".to_string());
     let cases: [(&str, &[(usize, usize)]); 10] = [
         ("1 0 1", &[]),
         ("2 2 2", &[(1, 2)]),
@@ -278,7 +278,7 @@ fn named_small_gates(tester: &mut Tester) {
         let at_line = gates.iter().zip(&lines).filter(|(_, found)| **found == line);
         let found: Vec<Vec<(usize, usize)>> = at_line.map(|(gate, _)| numbered_from_1(&gate.needs)).collect();
         let verdict = if found == [needs] { Ok(()) } else { Err(format!("{found:?}, not {needs:?}")) };
-        tester.report.case(group, verdict, || line.to_string());
+        tester.report.case(Of::Reference, group, verdict, || line.to_string());
     }
 }
 
@@ -318,7 +318,7 @@ fn planned(tester: &mut Tester, name: &str, file: &[u8], answer: Answer) {
         _ => false,
     };
     let verdict = if right { Ok(()) } else { Err(format!("{found:?}")) };
-    tester.report.case("named: the planner's answer", verdict, || name.to_string());
+    tester.report.case(Of::Answer, "named: the planner's answer", verdict, || name.to_string());
 }
 
 /// The answer for the printed example, printed as the planning program does.
@@ -326,7 +326,7 @@ fn printed_example(tester: &mut Tester) {
     tester.label = "printed example".to_string();
     let text = printed(&tester.plan("named: plan", &PRINTED_FILE));
     let verdict = if text == PRINTED { Ok(()) } else { Err(text) };
-    tester.report.case("named: the planner's answer", verdict, || "printed example".to_string());
+    tester.report.case(Of::Answer, "named: the planner's answer", verdict, || "printed example".to_string());
 }
 
 /// Tables for needs 1-3, 2-3, limit 4: starts and boards of the three jobs, and what the check says.
@@ -386,7 +386,9 @@ fn checks(tester: &mut Tester, name: &str, file: &[u8], table: &[u8], answer: Pa
     tester.label = name.to_string();
     let found = tester.check("named: check", file, table);
     let verdict = if found == answer { Ok(()) } else { Err(format!("{found:?}")) };
-    tester.report.case("named: the library's answer", verdict, || format!("{name}, table {}", shown(table)));
+    tester
+        .report
+        .case(Of::Answer, "named: the library's answer", verdict, || format!("{name}, table {}", shown(table)));
 }
 
 /// Tables by the starts and boards of their rows, their counts made to fit, and what the lookup says of one place.
@@ -418,7 +420,7 @@ fn looked_up(tester: &mut Tester) {
         tester.label = name.to_string();
         let found = tester.lookup("named: lookup", &table, slot, board);
         let verdict = if found == answer { Ok(()) } else { Err(format!("{found:?}")) };
-        tester.report.case("named: the reference's answer", verdict, || name.to_string());
+        tester.report.case(Of::Reference, "named: the reference's answer", verdict, || name.to_string());
         tester.lookups("named: lookup", &table);
         tester.all_lookups("named: lookup", &table);
     }

@@ -10,7 +10,7 @@ use crate::reference::implied;
 use crate::reference::reading::LONGEST_FILE;
 use crate::reference::small;
 use crate::reference::text::{printed, printed_gates, printed_needs};
-use crate::report::shown;
+use crate::report::{shown, Of};
 use crate::stage::Verdict;
 use crate::tester::Tester;
 use std::io::{Error, Result, Write};
@@ -57,15 +57,17 @@ pub fn small_gates(tester: &mut Tester, program: &str) {
     let nothing_else = "program small_gates: nothing else";
     let found = match output(program, &[]) {
         Ok(found) => String::from_utf8_lossy(&found).into_owned(),
-        Err(error) => return tester.report.case(nothing_else, Err(error.to_string()), || program.to_string()),
+        Err(error) => {
+            return tester.report.case(Of::Program, nothing_else, Err(error.to_string()), || program.to_string())
+        }
     };
     let mut lines = found.split_inclusive('\n');
     for (at, expected) in printed_gates(&small::small_gates()).split_inclusive('\n').enumerate() {
         let verdict = same(lines.next().unwrap_or_default(), expected);
-        tester.report.case("program small_gates: lines", verdict, || format!("line {}", at + 1));
+        tester.report.case(Of::Program, "program small_gates: lines", verdict, || format!("line {}", at + 1));
     }
     let behind: String = lines.collect();
-    tester.report.case(nothing_else, same(&behind, ""), || "behind the last line".to_string());
+    tester.report.case(Of::Program, nothing_else, same(&behind, ""), || "behind the last line".to_string());
 }
 
 /// The program prints the needs that the reference lists.
@@ -85,7 +87,7 @@ fn prints(tester: &mut Tester, group: &'static str, program: &str, file: &[u8], 
         .map_err(|error| error.to_string())
         .and_then(|found| same(&String::from_utf8_lossy(&found), expected));
     let label = &tester.label;
-    tester.report.case(group, verdict, || format!("{label}, file {}", shown(file)));
+    tester.report.case(Of::Program, group, verdict, || format!("{label}, file {}", shown(file)));
 }
 
 fn same(found: &str, expected: &str) -> Verdict {

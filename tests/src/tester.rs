@@ -4,7 +4,7 @@ use crate::generate::random::Random;
 use crate::generate::tables::{all_questions, questions};
 use crate::reference::entries::WORK_BYTES;
 use crate::reference::table::{Table, LONGEST_TABLE};
-use crate::report::{shown, Report};
+use crate::report::{shown, Of, Report};
 use crate::stage::{Stage, LONGEST_WORK};
 
 pub struct Tester {
@@ -39,7 +39,8 @@ impl Tester {
         let answer = answered.as_ref().map_or_else(|number| format!("refused {number:>2}"), |_| "table".to_string());
         self.report.answer("plan", answer);
         let label = &self.label;
-        self.report.case(group, verdict, || format!("{label}, buffers {work} and {table}, file {}", shown(file)));
+        self.report
+            .case(Of::Call, group, verdict, || format!("{label}, buffers {work} and {table}, file {}", shown(file)));
         answered
     }
 
@@ -49,7 +50,7 @@ impl Tester {
         let answer = answered.map_or_else(|number| format!("refused {number:>2}"), |()| "passes".to_string());
         self.report.answer("check", answer);
         let label = &self.label;
-        self.report.case(group, verdict, || format!("{label}, file {}, table {}", shown(file), shown(table)));
+        self.report.case(Of::Call, group, verdict, || format!("{label}, file {}, table {}", shown(file), shown(table)));
         answered
     }
 
@@ -83,7 +84,7 @@ impl Tester {
         };
         self.report.answer("lookup", answer);
         let label = &self.label;
-        self.report.case(group, verdict, || format!("{label}, table {}", shown(table)));
+        self.report.case(Of::Call, group, verdict, || format!("{label}, table {}", shown(table)));
         expected
     }
 }

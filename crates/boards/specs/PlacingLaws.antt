@@ -9,7 +9,7 @@ use Rattle.rules.specs.Needs.{Need, Gives, NeedsIn}
 use Rattle.rules.specs.Program.{slots, Kept}
 use Rattle.rules.specs.Boards.{sweep, slotBoards, boards, inSlot, fullest}
 use Rattle.laws.specs.Counting.{most-ge, at-largest}
-use Rattle.laws.specs.BoardStep.{Given}
+use Rattle.laws.specs.BoardStep.{Given, none-given}
 use Rattle.laws.specs.BoardSlots.{slot-given}
 use Rattle.laws.specs.BoardLaws.{boards-length, boards-low}
 use Rattle.laws.specs.Lists.{zeros-at}
@@ -75,13 +75,7 @@ module _ (n : ℕ) (needs : List Need) (t givers starts : List ℕ) (h : ArraysH
   unfolding boards counted
   all-match = slots-match (slots t) 0 empty (replicate n 0) (replicate 64 0) (omega arith)
       (places-none (λ i. (i < n) × (at t i + 1 ≡ 0)) (λ i p. omega (arith, p .1)))
-      (record {
-        len = length-replicate n 0;
-        low = λ i l k. absurd (omega arith);
-        bound = λ i l k. absurd (omega arith);
-        apart = λ i j l k p e v. absurd (omega arith);
-        inherits = λ g k a p e. absurd (omega arith);
-      })
+      (none-given n needs t (fullest n t))
       (record { size = length-replicate {A = ℕ} 64 0; same = λ i l. omega (arith, zeros-at 64 (63 - i), zeros-at n i) })
 
   -- the boards are those of the rules

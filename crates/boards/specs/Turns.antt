@@ -71,6 +71,7 @@ pub numbered-turn : (b : List ℕ) (i : ℕ) → i < 64 → set (numbered b i) (
 unfolding boardNumber
 numbered-turn b i h = rw (filled-later (boardNumber b) b i i (omega arith) h) (filled-next (boardNumber b) b i)
 
-pub most-turn : (b : List ℕ) (i : ℕ) → i < 64 → max (at (numbered b i) (63 - i) + 1) (most (boardNumber b) i) ≡ most (boardNumber b) (i + 1)
+-- the greater of the next board and of the most before it is the most
+pub most-turn : (b : List ℕ) (i count : ℕ) → i < 64 → count ≡ most (boardNumber b) i → max (at (numbered b i) (63 - i) + 1) count ≡ most (boardNumber b) (i + 1)
 unfolding most boardNumber
-most-turn b i h = rw (add-one i, filled-later (boardNumber b) b i i (omega arith) h)
+most-turn b i count h e = rw (e, add-one i, filled-later (boardNumber b) b i i (omega arith) h)

@@ -3,81 +3,85 @@
 //
 // A job file of more than 16,384 bytes fills its buffer, and is refused by question 2, whatever follows. A table file has at most 1,222
 // bytes: one that fills a buffer of 4,096 is refused by question 14.
-mod grid;
-mod lines;
-mod pairs;
-mod report;
-
-use gate::Found;
 use gate::Planned;
-use gate::Verdict;
-use implied::Listed;
 use libc::STDERR_FILENO;
 use libc::STDIN_FILENO;
-use libc::STDOUT_FILENO;
 ghost use mathlib.Core.Path.{_≡_};
 ghost use mathlib.Core.Bool.{true};
 ghost use mathlib.Core.Logic.{_⊎_};
-ghost use Prim.Native.Nat.{_≤_};
-ghost use Rattle.gate.specs.Numbers.{plannedNumber, verdictNumber};
-ghost use Rattle.implied.specs.Listing.{listedNumber};
-ghost use Rattle.small.specs.Lines.{allAgreed};
+ghost use lib.ListN.{length, take};
+ghost use Rattle.rules.specs.Fields.{numberOf};
+ghost use Rattle.rules.specs.Answers.{plan as Answers·plan, check as Answers·check};
+ghost use Rattle.rules.specs.Implied.{listImplied};
+ghost use Rattle.laws.specs.Refusals.{PlanNumber, ImpliedNumber, CheckNumber, LookupNumber};
+ghost use Rattle.gate.specs.Numbers.{plannedSize};
 
-// The line of a refusal; gives its number.
-fn print_refused(number: u8) -> u8
-    ensures { λ r. ⌜ r ≡ number ⌝ }
+// The first so many bytes of a buffer.
+fn front(buffer: &[u8], size: usize) -> &[u8]
+    ensures { λ r. ⌜ now r ≡ take size (now (buffer .entry)) ⌝ }
 {
-    io::write_all(STDOUT_FILENO, b"refused ");
-    io::print_decimal(STDOUT_FILENO, number as u64);
-    io::write_all(STDOUT_FILENO, b"\n");
-    number
-}
-
-// The table of so many bytes at the front of its buffer.
-fn front(buffer: &[u8], size: usize) -> &[u8] {
     if buffer.len() < size {
         return buffer;
     }
     &buffer[..size]
 }
 
-// Prints a planner's answer, the table from the front of its buffer; gives its number.
-fn print_planned(p: Planned, table: &[u8]) -> u8
-    ensures { λ r. ⌜ r ≡ plannedNumber p ⌝ }
+// The table that a planner's answer has left at the front of its buffer; empty after a refusal.
+fn table_of(p: Planned, buffer: &[u8]) -> &[u8]
+    ensures { λ r. ⌜ now r ≡ take (plannedSize p) (now (buffer .entry)) ⌝ }
 {
     match p {
-        Planned::Table(size) => {
-            report::print_table(front(table, size));
-            0
-        }
-        Planned::Refused(number) => print_refused(number),
+        Planned::Table(size) => front(buffer, size),
+        Planned::Refused(_) => front(buffer, 0),
     }
+}
+
+// Plans a job file in lent buffers, and prints the table, or that the file is refused.
+fn plan_bytes(file: &[u8], work: &mut [u8], table: &mut [u8]) -> u8
+    ensures { λ r. ⌜ r ≡ Answers·plan (now (file .entry)) (now (work .entry)) (now (table .entry)) .number ⌝ }
+{
+    let p = gate::plan(file, work, table);
+    printing::print_planned(p, table_of(p, table))
 }
 
 // Plans a job file that is read from standard input, and prints the table, or that the file is refused.
 pub fn plan() -> u8
-    ensures { λ r. ⌜ (r ≤ 13) ⊎ (r ≡ 21) ⌝ }
+    ensures { λ r. ⌜ (r ≡ 0) ⊎ PlanNumber r ⌝ }
 {
     let mut file = [0u8; 16385];
     let mut work = io::large_buffer();
     let mut table = [0u8; 1222];
     let n = io::read_full(STDIN_FILENO, &mut file);
-    let p = gate::plan(&file[..n], &mut work, &mut table);
-    print_planned(p, &table)
+    plan_bytes(&file[..n], &mut work, &mut table)
 }
 
-// Writes a planned table to the file that argument 2 names; says whether there was none to write, or all of it was written.
-fn save(p: Planned, table: &[u8]) -> bool {
-    match p {
-        Planned::Table(size) => files::write_argument(2, front(table, size)) != 0,
-        Planned::Refused(_) => true,
+// Writes a table to the file that argument 2 names; says whether there was none to write, or all of it was written.
+fn save(table: &[u8]) -> bool
+    ensures { λ r. ⌜ (length (now (table .entry)) ≡ 0 → r ≡ true) ⌝ }
+{
+    if table.len() == 0 {
+        return true;
     }
+    files::write_argument(2, table) != 0
+}
+
+// Plans a job file in lent buffers; writes the table to the file that argument 2 names, and prints it, or that the job file is refused; gives the
+// number. A table that could not be written is not printed.
+fn plan_to_file(file: &[u8], work: &mut [u8], table: &mut [u8]) -> u8
+    ensures { λ r. ⌜ r ≡ Answers·plan (now (file .entry)) (now (work .entry)) (now (table .entry)) .number ⌝ }
+{
+    let p = gate::plan(file, work, table);
+    let planned = table_of(p, table);
+    if !save(planned) {
+        return 0;
+    }
+    printing::print_planned(p, planned)
 }
 
 // Plans the job file, argument 1; writes the table file, argument 2, and prints the table, or that the job file is refused. A refusal
 // writes no file.
 pub fn plan_table() -> u8
-    ensures { λ r. ⌜ (r ≤ 13) ⊎ (r ≡ 21) ⌝ }
+    ensures { λ r. ⌜ (r ≡ 0) ⊎ PlanNumber r ⌝ }
 {
     if os::arg_count() != 3 {
         io::write_all(STDERR_FILENO, b"usage: plan_table JOB_FILE TABLE_FILE\n");
@@ -91,29 +95,19 @@ pub fn plan_table() -> u8
         return 0;
     }
     let n = f.count;
-    let p = gate::plan(&file[..n], &mut work, &mut table);
-    if !save(p, &table) {
-        return 0;
-    }
-    print_planned(p, &table)
+    plan_to_file(&file[..n], &mut work, &mut table)
 }
 
-// The line of a verdict; gives its number.
-fn print_verdict(v: Verdict) -> u8
-    ensures { λ r. ⌜ r ≡ verdictNumber v ⌝ }
+// Prints whether a table passes for a job file; gives the number.
+fn check_bytes(file: &[u8], table: &[u8]) -> u8
+    ensures { λ r. ⌜ r ≡ numberOf (Answers·check (now (file .entry)) (now (table .entry))) ⌝ }
 {
-    match v {
-        Verdict::Passes => {
-            io::write_all(STDOUT_FILENO, b"passes\n");
-            0
-        }
-        Verdict::Refused(number) => print_refused(number),
-    }
+    printing::print_verdict(gate::check(file, table))
 }
 
 // Prints whether the table file, argument 2, passes for the job file, argument 1.
 pub fn check_table() -> u8
-    ensures { λ r. ⌜ (r ≤ 18) ⊎ (r ≡ 21) ⌝ }
+    ensures { λ r. ⌜ (r ≡ 0) ⊎ CheckNumber r ⌝ }
 {
     if os::arg_count() != 3 {
         io::write_all(STDERR_FILENO, b"usage: check_table JOB_FILE TABLE_FILE\n");
@@ -131,24 +125,12 @@ pub fn check_table() -> u8
     }
     let n = f.count;
     let m = t.count;
-    print_verdict(gate::check(&file[..n], &table[..m]))
-}
-
-// Prints the table, or that it is refused; gives the number.
-fn print_table(table: &[u8]) -> u8
-    ensures { λ r. ⌜ r ≤ 17 ⌝ }
-{
-    let f = gate::lookup(table, 0, 0);
-    let Found::Refused(number) = f else {
-        grid::print(table);
-        return 0;
-    };
-    print_refused(number)
+    check_bytes(&file[..n], &table[..m])
 }
 
 // Prints the table file, argument 1, for people: a line for each slot, a column for each board.
 pub fn show_table() -> u8
-    ensures { λ r. ⌜ r ≤ 17 ⌝ }
+    ensures { λ r. ⌜ (r ≡ 0) ⊎ LookupNumber r ⌝ }
 {
     if os::arg_count() != 2 {
         io::write_all(STDERR_FILENO, b"usage: show_table TABLE_FILE\n");
@@ -160,38 +142,25 @@ pub fn show_table() -> u8
         return 0;
     }
     let n = t.count;
-    print_table(&table[..n])
+    printing::show_bytes(&table[..n])
 }
 
-// Prints the pairs that are listed, from the front of the list, or that the job file is refused; gives the number.
-fn print_listed(l: Listed, list: &[u16]) -> u8
-    ensures { λ r. ⌜ r ≡ listedNumber l ⌝ }
+// Prints the needs of a job file that follow from others, listed in lent memory, or that the file is refused; gives the number.
+fn list_bytes(file: &[u8], list: &mut [u16]) -> u8
+    ensures { λ r. ⌜ r ≡ numberOf (listImplied (now (file .entry)) (now (list .entry)) .answer) ⌝ }
 {
-    match l {
-        Listed::Pairs(count) => {
-            pairs::print(pairs::first(list, count));
-            0
-        }
-        Listed::Refused(number) => print_refused(number),
-    }
+    let l = implied::implied_needs(file, list);
+    printing::print_listed(l, list)
 }
 
 // Prints the needs that follow from others, of a job file that is read from standard input: giver and taker, a line for each; or that the file is refused.
 pub fn implied_needs() -> u8
-    ensures { λ r. ⌜ (r ≤ 11) ⊎ (r ≡ 21) ⌝ }
+    ensures { λ r. ⌜ (r ≡ 0) ⊎ ImpliedNumber r ⌝ }
 {
     let mut file = [0u8; 16385];
     let mut list = [0u16; 6552];
     let n = io::read_full(STDIN_FILENO, &mut file);
-    let l = implied::implied_needs(&file[..n], &mut list);
-    print_listed(l, &list)
-}
-
-// Prints the lines of small gates, three numbers of the list each; says whether the planner gives the same for each.
-pub fn print_gates(list: &[u16]) -> bool
-    ensures { λ r. ⌜ r ≡ allAgreed (now (list .entry)) ⌝ }
-{
-    lines::print(list)
+    list_bytes(&file[..n], &mut list)
 }
 
 // Prints the line of every small gate; says whether the planner gives the same for each.
@@ -199,5 +168,5 @@ pub fn small_gates() -> bool
     ensures { λ r. ⌜ r ≡ true ⌝ }
 {
     let list = small::small_gates();
-    lines::print(&list)
+    printing::print_gates(&list)
 }

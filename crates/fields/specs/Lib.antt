@@ -1,2 +1,3 @@
--- The laws of fields. Assumes nothing.
+-- The laws of fields, and of the bytes of a name. Assumes nothing.
 pub mod Fields
+pub mod Names

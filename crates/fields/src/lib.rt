@@ -1,11 +1,12 @@
-// Numbers and fields of a file: a field is a one-byte tag, a two-byte length and that many value bytes.
+// Numbers, fields and names of a file: a field is a one-byte tag, a two-byte length and that many value bytes.
 ghost use mathlib.Core.Path.{_≡_};
 ghost use Prim.Native.Nat.{_+_, _<_, _≤_, max};
-ghost use lib.ListN.{length};
+ghost use lib.ListN.{length, drop};
 ghost use lib.Dec.{T};
-ghost use Rattle.rules.specs.Basics.{at};
+ghost use Rattle.rules.specs.Basics.{at, all};
 ghost use Rattle.rules.specs.Numbers.{word};
 ghost use Rattle.rules.specs.Fields.{value, whole};
+ghost use Rattle.rules.specs.JobFile.{nameByte};
 
 // A byte, as a two-byte number.
 fn half(b: u8) -> u16
@@ -63,4 +64,23 @@ pub fn value_at(bytes: &[u8], offset: usize) -> &[u8]
     let start = offset + 3;
     let end = start + index(word_at(bytes, offset + 1));
     &bytes[start..end]
+}
+
+// Is each byte of the name behind the level 33 to 126?
+pub fn name_ok(v: &[u8]) -> bool
+    requires { ⌜ 2 ≤ length (now v) ⌝ }
+    ensures { λ r. ⌜ r ≡ all nameByte (drop 2 (now (v .entry))) ⌝ }
+{
+    let mut i = 2;
+    while i < v.len() {
+        let c = v[i];
+        i += 1;
+        if c < 33 {
+            return false;
+        }
+        if 126 < c {
+            return false;
+        }
+    }
+    true
 }

@@ -1,6 +1,5 @@
 -- The numbers of the answers are those of the rules, and the name's number says where it stands. Assumes nothing.
 use mathlib.Core.Path.{_≡_, refl, sym, ap, subst, _∙_}
-use mathlib.Core.Logic.{_⊎_, inl, inr, ⊎-elim}
 use mathlib.Core.List.{List}
 use Prim.Native.Nat.{ℕ, zero, suc, _+_, _-_, _*_, _/_, _%_, _≤_, _<_}
 use native.Mathlib.Omega.{arith}
@@ -9,20 +8,16 @@ use Rattle.rules.specs.Sizes.{tableSize}
 use Rattle.rules.specs.Basics.{at}
 use Rattle.rules.specs.Fields.{Answer, refused, got, numberOf, part}
 use Rattle.rules.specs.Table.{Table, rowStart}
-use Rattle.rules.specs.Answers.{Outcome, plan, check, lookup, nameSpan, nameAt}
+use Rattle.rules.specs.Answers.{Outcome, plan, lookup, nameSpan, nameAt}
 use Rattle.laws.specs.Tests.{T-eqb, choose-yes, choose-no}
 use Rattle.laws.specs.Numbers.{bytes-all}
-use Rattle.laws.specs.Demands.{plan-refuses, plan-size, table-has-bytes}
-use Rattle.laws.specs.Refusals.{Refusal, check-most, LookupNumber, lookup-number}
+use Rattle.laws.specs.Demands.{plan-size, table-has-bytes}
 use Rattle.planner.specs.Planner.{outcomeOf}
 use Rattle.planner.specs.declared.Planned.{Planned}
 use Rattle.planner.specs.declared.Planned.the-variants as planned
-use Rattle.table.specs.declared.Verdict.{Verdict}
-use Rattle.table.specs.declared.places.Found.{Found}
-use Rattle.table.specs.declared.places.Found.the-variants as found
 use Rattle.table.specs.Entries.{verdictOf, foundOf, placeOf}
 use Rattle.table.specs.Names.{name-lies}
-use Rattle.gate.specs.Numbers.{planNumber, plannedNumber, verdictNumber, foundNumber, placeNumber, lookupNumber, nameNumber}
+use Rattle.gate.specs.Numbers.{planNumber, plannedNumber, plannedSize, verdictNumber, foundNumber, refusalNumber, placeNumber, lookupNumber, nameNumber}
 
 -- the planner's answer p leaves the buffers work′ and table′
 module _ (file work table : List ℕ) (p : Planned) (work′ table′ : List ℕ) (answered : outcomeOf p work′ table′ ≡ plan file work table) where
@@ -39,15 +34,27 @@ module _ (file work table : List ℕ) (p : Planned) (work′ table′ : List ℕ
   pub table-few : (k : ℕ) → p ≡ planned.Table k → ((i : ℕ) → at file i < 256) → k ≤ tableSize
   table-few k e b =
       let h : outcomeOf (planned.Table k) work′ table′ ≡ plan file work table = subst (λ (q : Planned). outcomeOf q work′ table′ ≡ plan file work table) e answered in
-      omega (arith, ap (λ (o : Outcome). o .length) h, plan-size file work table (bytes-all file b))
+      omega (arith, ap (λ (o : Outcome). o .size) h, plan-size file work table (bytes-all file b))
 
   -- a refusal: its number is not 0, since a table has bytes
   pub refusal-number : (q : ℕ) → p ≡ planned.Refused q → Answered (65536 + q)
   unfolding planNumber
   refusal-number q e =
       let h : outcomeOf (planned.Refused q) work′ table′ ≡ plan file work table = subst (λ (r : Planned). outcomeOf r work′ table′ ≡ plan file work table) e answered in
-      let n : q ≡ 0 → ⊥ = λ z. omega (arith, ap (λ (o : Outcome). o .length) h, table-has-bytes file work table (sym (ap (λ (o : Outcome). o .number) h) ∙ z)) in
+      let n : q ≡ 0 → ⊥ = λ z. omega (arith, ap (λ (o : Outcome). o .size) h, table-has-bytes file work table (sym (ap (λ (o : Outcome). o .number) h) ∙ z)) in
       (sym (ap planNumber (sym h) ∙ choose-no _ _ _ (λ t. n (T-eqb q 0 .0 t))), (ap (λ (o : Outcome). o .work) h, ap (λ (o : Outcome). o .table) h))
+
+-- the number and the size in the planner's answer are those of the rules' outcome
+pub planned-number : (p : Planned) (work table : List ℕ) (o : Outcome) → outcomeOf p work table ≡ o → (plannedNumber p ≡ o .number) × (plannedSize p ≡ o .size)
+unfolding plannedNumber plannedSize
+planned-number (planned.Table k) work table o e = (ap (λ (x : Outcome). x .number) e, ap (λ (x : Outcome). x .size) e)
+planned-number (planned.Refused q) work table o e = (ap (λ (x : Outcome). x .number) e, ap (λ (x : Outcome). x .size) e)
+
+-- where there is a table, nothing was refused
+pub size-number : (p : Planned) → (plannedSize p ≡ 0 → ⊥) → plannedNumber p ≡ 0
+unfolding plannedNumber plannedSize
+size-number (planned.Table k) h = refl
+size-number (planned.Refused q) h = absurd (h refl)
 
 pub verdict-number : (x : Answer Table) → verdictNumber (verdictOf x) ≡ numberOf x
 unfolding verdictNumber verdictOf numberOf
@@ -79,34 +86,11 @@ name-at bs s b = go (lookup bs s b) refl
     go (got zero) e = unfold part nameSpan nameNumber in refl
     go (got (suc i)) e = unfold part nameSpan nameNumber in let f = far i e in rw (f .0, f .1) refl
 
--- ---- no number is greater than that of the last question, but 21
+-- ---- the lookup's refusals
 
-pub planned-most : (file work table : List ℕ) (p : Planned) (work′ table′ : List ℕ) → outcomeOf p work′ table′ ≡ plan file work table → (plannedNumber p ≤ 13) ⊎ (plannedNumber p ≡ 21)
-unfolding plannedNumber
-planned-most file work table (planned.Table k) work′ table′ e = inl (omega arith)
-planned-most file work table (planned.Refused q) work′ table′ e =
-    let n = ap (λ (o : Outcome). o .number) e in
-    ⊎-elim (λ h. inl (omega (arith, n, h))) (λ h. inr (n ∙ h)) (plan-refuses file work table)
-
-pub verdict-most : (file table : List ℕ) (v : Verdict) → v ≡ verdictOf (check file table) → (verdictNumber v ≤ 18) ⊎ (verdictNumber v ≡ 21)
-verdict-most file table v e = rw (ap verdictNumber e ∙ verdict-number (check file table)) (check-most file table)
-
-unfoldable Few : Found → Type 0
-Few (found.Job j) = Unit {0}
-Few found.Idle = Unit {0}
-Few (found.Refused q) = q ≤ 17
-
-few : (x : Answer ℕ) → Refusal LookupNumber x → Few (foundOf x)
-unfolding Few foundOf Refusal
-few (refused q) h = most q h
-  where
-    most : (n : ℕ) → LookupNumber n → n ≤ 17
-    most n (inl p) = omega arith
-    most n (inr (inl p)) = omega arith
-    most n (inr (inr p)) = omega arith
-few (got zero) h = tt
-few (got (suc i)) h = tt
-
-pub found-most : (bs : List ℕ) (s b q : ℕ) → foundOf (lookup bs s b) ≡ found.Refused q → q ≤ 17
-unfolding Few
-found-most bs s b q e = subst Few e (few (lookup bs s b) (lookup-number bs s b))
+-- the number of a refusal is that of the rules' answer
+pub refusal-number-is : (x : Answer ℕ) → refusalNumber (foundOf x) ≡ numberOf x
+unfolding refusalNumber foundOf numberOf
+refusal-number-is (refused q) = refl
+refusal-number-is (got zero) = refl
+refusal-number-is (got (suc i)) = refl

@@ -19,6 +19,11 @@ unfoldable pub plannedNumber : Planned → ℕ
 plannedNumber (planned.Table n) = 0
 plannedNumber (planned.Refused q) = q
 
+-- the size of the table that each answer of the planner leaves: 0 where there is none
+unfoldable pub plannedSize : Planned → ℕ
+plannedSize (planned.Table n) = n
+plannedSize (planned.Refused q) = 0
+
 -- the number of each verdict: 0 passes
 unfoldable pub verdictNumber : Verdict → ℕ
 verdictNumber verdict.Passes = 0
@@ -30,6 +35,12 @@ foundNumber (found.Job j) = j
 foundNumber found.Idle = 0
 foundNumber (found.Refused q) = 65536 + q
 
+-- the number of a refusal of the lookup: 0 where it is none
+unfoldable pub refusalNumber : Found → ℕ
+refusalNumber (found.Job j) = 0
+refusalNumber found.Idle = 0
+refusalNumber (found.Refused q) = q
+
 -- the number of each place of a name: offset times 65536, plus length
 unfoldable pub placeNumber : Place → ℕ
 placeNumber (place.Name j a e) = a * 65536 + (e - a)
@@ -40,7 +51,7 @@ placeNumber (place.Refused q) = 0
 
 -- the planner's answer: the length of the table, or 65536 and the number of the refusal
 unfoldable pub planNumber : Outcome → ℕ
-planNumber o = choose (eqb (o .number) 0) (o .length) (65536 + o .number)
+planNumber o = choose (eqb (o .number) 0) (o .size) (65536 + o .number)
 
 -- the lookup's answer: 0 idle, a job number, or 65536 and the number of the refusal
 unfoldable pub lookupNumber : Answer ℕ → ℕ

@@ -1,6 +1,5 @@
 -- The ways out of `implied_needs`, by what it has tested. Assumes nothing.
 use mathlib.Core.Path.{_≡_, refl, sym, ap, ap₂, _∙_}
-use mathlib.Core.Logic.{_⊎_}
 use mathlib.Core.Bool.{true, false}
 use mathlib.Core.List.{List}
 use Prim.Native.Nat.{ℕ, _/_, _≤_, _<_}
@@ -18,7 +17,7 @@ use Rattle.laws.specs.Writing.{put, put-front}
 use Rattle.laws.specs.Numbers.{bytes-all}
 use Rattle.laws.specs.Fields.{number-refused}
 use Rattle.laws.specs.JobFile.{readable, needs-in}
-use Rattle.laws.specs.Refusals.{read-got, implied-most}
+use Rattle.laws.specs.Refusals.{read-got}
 use Rattle.laws.specs.Circles.{circle-free}
 use Rattle.laws.specs.Implied.{pairs-length, list-fits}
 use Rattle.jobset.specs.Arrays.{GiversAre}
@@ -82,17 +81,31 @@ module _ {file list : List ℕ} {F : Counts} {offsets givers takers : List ℕ} 
   held : Held file (file-got .0) (stateOf F offsets givers takers)
   held = r .reads .held (file-got .0) (file-got .1)
 
-  -- so there are at most 64 jobs, and the needs are between them
+  -- so there are at most 64 jobs
   pub jobs-few : n ≤ 64
   jobs-few = held .few
 
+  -- there is a set of givers, and one of takers, for each of them
+  pub sets-long : (length givers ≡ 64) × (length takers ≡ 64)
+  sets-long = (held .sizes .1, held .sizes .2)
+
+  -- and the needs are between them
   file-needs : NeedsIn n needs
   unfolding needs
   file-needs g k m =
       let w = needs-in (file-got .0) (readable file (bytes-all file (r .bytes)) (file-got .0) (file-got .1)) g k m in
       (omega (arith, w .0, held .jobs-is), omega (arith, w .1, held .jobs-is))
 
-  module _ (levels : JobLevels) (levels-are : (needs : List Need) → NeedsIn n needs → GiversAre givers needs → levels ≡ levelsOf n needs) where
+  -- the levels are those of every list of needs that the givers hold
+  abbrev pub LevelsAre : JobLevels → Type 0
+  LevelsAre levels = (ns : List Need) → NeedsIn n ns → GiversAre givers ns → levels ≡ levelsOf n ns
+
+  -- and say that there is no circle
+  pub record NoCircle (levels : JobLevels) : Type 0 where
+    pub levels-are : LevelsAre levels
+    pub ok : levels .ok ≡ true
+
+  module _ {levels : JobLevels} (levels-are : LevelsAre levels) where
     -- the levels are those of its needs, and say whether there is a circle
     levels-is : levels ≡ levelsOf n needs
     unfolding needs
@@ -111,52 +124,53 @@ module _ {file list : List ℕ} {F : Counts} {offsets givers takers : List ℕ} 
     unfolding ask
     circle e = refused-by file list (r .room) 11 (asked ∙ rw e refl)
 
-    module _ (no-circle : levels .ok ≡ true) where
-      -- the reader's takers are those of the needs
-      takers-are : Takers n needs takers
-      unfolding needs
-      takers-are = record {
-        few = jobs-few;
-        needs-in = file-needs;
-        free = circle-free n needs file-needs .0 (T-true (circleFree n needs) .1 (free ∙ no-circle));
-        held = held .takers-are;
-      }
+  module _ {levels : JobLevels} (no-circle : NoCircle levels) where
+    -- the reader's takers are those of the needs
+    takers-are : Takers n needs takers
+    unfolding needs
+    takers-are = record {
+      few = jobs-few;
+      needs-in = file-needs;
+      free = circle-free n needs file-needs .0 (T-true (circleFree n needs) .1 (free (no-circle .levels-are) ∙ no-circle .ok));
+      held = held .takers-are;
+    }
 
-      -- what each job reaches, and the pairs of all givers
-      abbrev reach : List ℕ
-      reach = reachEach takers (fromTop (table (levelSet (levels .level) n)) 66) (replicate 64 0)
+    -- what each job reaches, and the pairs of all givers
+    abbrev reach : List ℕ
+    reach = reachEach takers (fromTop (table (levelSet (levels .level) n)) 66) (replicate 64 0)
 
-      abbrev rows : List ℕ
-      rows = rowsNumbers takers reach n
+    abbrev rows : List ℕ
+    rows = rowsNumbers takers reach n
 
-      -- they are the rules' list, and there is room for them
-      rows-is : rows ≡ pairNumbers (impliedNeeds n needs)
-      rows-is = rows-are takers-are reach (λ i h. rw levels-is (all-right takers-are i h))
+    -- they are the rules' list, and there is room for them
+    rows-is : rows ≡ pairNumbers (impliedNeeds n needs)
+    rows-is = rows-are takers-are reach (λ i h. rw (levels-is (no-circle .levels-are)) (all-right takers-are i h))
 
-      pub rows-fit : length rows ≤ length list
-      unfolding needs
-      rows-fit = omega (
-        arith,
-        r .room,
-        ap length rows-is,
-        ap (λ (n : ℕ). length (pairNumbers (impliedNeeds n (file-got .0 .needs)))) (held .jobs-is),
-        list-fits file (bytes-all file (r .bytes)) (file-got .0) (file-got .1) (takers-are .free),
-      )
+    pub rows-fit : length rows ≤ length list
+    unfolding needs
+    rows-fit = omega (
+      arith,
+      r .room,
+      ap length rows-is,
+      ap (λ (n : ℕ). length (pairNumbers (impliedNeeds n (file-got .0 .needs)))) (held .jobs-is),
+      list-fits file (bytes-all file (r .bytes)) (file-got .0) (file-got .1) (takers-are .free),
+    )
 
-      -- the list is written
-      pub all-listed : listingOf (Pairs (length rows / 2)) (put 0 rows list) ≡ listImplied file list
-      unfolding ask listed listingOf
-      all-listed =
-          let ds = impliedNeeds n needs in
-          let half : length rows / 2 ≡ length ds = omega (arith, ap length rows-is, pairs-length ds) in
-          ap₂ (λ (k : ℕ) (l : List ℕ). record { answer = got k; list = l }) half (put-front rows list rows-fit ∙ rw rows-is refl)
-          ∙ sym (leads file list (r .room) (got ds) (asked ∙ rw no-circle refl))
+    -- the list is written
+    pub all-listed : listingOf (Pairs (length rows / 2)) (put 0 rows list) ≡ listImplied file list
+    unfolding ask listed listingOf
+    all-listed =
+        let ds = impliedNeeds n needs in
+        let half : length rows / 2 ≡ length ds = omega (arith, ap length rows-is, pairs-length ds) in
+        ap₂ (λ (k : ℕ) (l : List ℕ). record { answer = got k; list = l }) half (put-front rows list rows-fit ∙ rw rows-is refl)
+        ∙ sym (leads file list (r .room) (got ds) (asked (no-circle .levels-are) ∙ rw (no-circle .ok) refl))
 
 -- ---- the number
 
--- none is greater than 11, but 21
-pub listed-most : (file list after : List ℕ) (l : Listed) → listingOf l after ≡ listImplied file list → (listedNumber l ≤ 11) ⊎ (listedNumber l ≡ 21)
-listed-most file list after l e = rw (number l ∙ ap (λ (x : Listing). numberOf (x .answer)) e) (implied-most file list)
+-- it is that of the rules' listing
+pub listed-number : (file list after : List ℕ) (l : Listed) → listingOf l after ≡ listImplied file list
+    → listedNumber l ≡ numberOf (listImplied file list .answer)
+listed-number file list after l e = number l ∙ ap (λ (x : Listing). numberOf (x .answer)) e
   where
     number : (l : Listed) → listedNumber l ≡ numberOf (listingOf l after .answer)
     number (Pairs n) = unfold listedNumber listingOf numberOf in refl

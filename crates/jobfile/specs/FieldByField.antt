@@ -1,83 +1,29 @@
--- The rules' questions of a field are those of the field reader and then those of its value; a turn of the loop. Assumes nothing.
+-- A turn of the loop over the fields: what the field reader and the readers of its value answer, and what is still to come. Assumes nothing.
 use mathlib.Core.Path.{_≡_, refl, sym, ap, subst, _∙_}
-use mathlib.Core.Bool.{Bool, true, false, _&&_}
+use mathlib.Core.Bool.{Bool, true, false}
 use mathlib.Core.List.{List}
 use Prim.Native.Nat.{ℕ, _+_, _-_, _≤_, _<_}
 use native.Mathlib.Omega.{arith}
 use lib.ListN.{length, take, drop, replicate, length-drop, length-replicate, getD-replicate}
 use lib.Seq.{length-take-le}
-use lib.Dec.{T, eqb, ltb, lit<}
-use Rattle.rules.specs.Basics.{choose, at, any}
-use Rattle.rules.specs.Fields.{Answer, refused, got, ask, after, part, fieldEnd, value, whole, overFields}
+use lib.Dec.{eqb, ltb, lit<}
+use Rattle.rules.specs.Basics.{at, any}
+use Rattle.rules.specs.Fields.{Answer, refused, got, ask, after, fieldEnd, value, overFields}
 use Rattle.rules.specs.Needs.{givesb}
-use Rattle.rules.specs.JobFile.{JobFile, knownTag, inPlace, lengthOk, contentOk, addField, readField, noFields}
+use Rattle.rules.specs.JobFile.{JobFile, contentOk, addField, readField, noFields}
 use Rattle.laws.specs.Tests.{by-choice}
-use Rattle.laws.specs.Fields.{whole-is, after-head, overFields-step, overFields-end}
+use Rattle.laws.specs.Fields.{overFields-step, overFields-end}
 use Rattle.jobset.specs.declared.Set.{Set}
 use Rattle.jobset.specs.Sets.{setAt, empty}
 use Rattle.jobset.specs.Membership.{member-empty}
 use Rattle.jobset.specs.Arrays.{giversIn, takersIn, set-in-part}
-use Rattle.jobfile.specs.declared.FieldAnswer.{FieldAnswer}
-use Rattle.jobfile.specs.declared.FieldAnswer.the-variants.{Field, Refused}
+use Rattle.fieldreader.specs.declared.FieldAnswer.the-variants.{Field, Refused}
+use Rattle.fieldreader.specs.Reader.{fieldAt}
+use Rattle.fieldreader.specs.FieldFound.{onField, field-first, stands, not-zero, value-is, bounds}
 use Rattle.jobfile.specs.declared.Counts.{Counts}
-use Rattle.jobfile.specs.Reading.{fieldAt, State, stateOf, initial, answerOf, linked, takeNeed, takeSockets, takeField, Held, Same}
+use Rattle.jobfile.specs.Reading.{State, stateOf, initial, answerOf, linked, takeNeed, takeSockets, takeField, Held, Same}
 use Rattle.jobfile.specs.NeedWays.{answer-refused, answer-got}
 use Rattle.jobfile.specs.Holding.{field-same}
-
--- what follows the field reader's answer
-unfoldable onField : List ℕ → JobFile → ℕ → FieldAnswer → Answer JobFile
-onField bs f a (Field t s e) = ask (contentOk (at bs a) (value bs a)) 6 (addField f (at bs a) (value bs a))
-onField bs f a (Refused q) = refused q
-
-field-first : (bs : List ℕ) (f : JobFile) (a : ℕ) → readField bs f a ≡ onField bs f a (fieldAt bs a (f .fields))
-unfolding readField fieldAt onField ask choose
-field-first bs f a = go (whole bs a) (knownTag (at bs a)) (inPlace (f .fields) (at bs a)) (lengthOk (at bs a) (length (value bs a)))
-  where
-    rest : Answer JobFile
-    rest = addField f (at bs a) (value bs a)
-
-    go : (w k p l : Bool) → ask w 3 (ask k 4 (ask p 5 (ask (l && contentOk (at bs a) (value bs a)) 6 rest)))
-        ≡ onField bs f a (choose w (choose k (choose p (choose l (Field (at bs a) (a + 3) (fieldEnd bs a)) (Refused 6)) (Refused 5)) (Refused 4)) (Refused 3))
-    go false k p l = refl
-    go true false p l = refl
-    go true true false l = refl
-    go true true true false = refl
-    go true true true true = refl
-
--- a field that the reader gives stands in the file
-pub record Stands (bs : List ℕ) (a t s e : ℕ) : Type 0 where
-  pub is-whole : T (whole bs a)
-  pub tag-is : t ≡ at bs a
-  pub start-is : s ≡ a + 3
-  pub end-is : e ≡ fieldEnd bs a
-  pub length-ok : T (lengthOk (at bs a) (length (value bs a)))
-
-unfoldable Standing : List ℕ → ℕ → FieldAnswer → Type 0
-Standing bs a (Field t s e) = Stands bs a t s e
-Standing bs a (Refused q) = q ≡ 0 → ⊥
-
-standing : (bs : List ℕ) (a k : ℕ) → Standing bs a (fieldAt bs a k)
-unfolding fieldAt Standing
-standing bs a k =
-    by-choice (Standing bs a) (whole bs a) (λ w. by-choice (Standing bs a) (knownTag (at bs a)) (λ _. by-choice (Standing bs a) (inPlace k (at bs a)) (λ _.
-    by-choice (Standing bs a) (lengthOk (at bs a) (length (value bs a))) (λ l. record { is-whole = w; tag-is = refl; start-is = refl; end-is = refl; length-ok = l }) (λ _ e. omega arith)) (λ _ e. omega arith)) (λ _ e. omega arith)) (λ _ e. omega arith)
-
-pub stands : (bs : List ℕ) (a k t s e : ℕ) → fieldAt bs a k ≡ Field t s e → Stands bs a t s e
-unfolding Standing
-stands bs a k t s e q = subst (Standing bs a) q (standing bs a k)
-
-not-zero : (bs : List ℕ) (a k q : ℕ) → fieldAt bs a k ≡ Refused q → q ≡ 0 → ⊥
-unfolding Standing
-not-zero bs a k q e = subst (Standing bs a) e (standing bs a k)
-
--- its value is the part of the file that the code hands on
-pub value-is : (bs : List ℕ) (a t s e : ℕ) → Stands bs a t s e → take (e - s) (drop s bs) ≡ value bs a
-unfolding value part
-value-is bs a t s e w = rw (w .start-is, w .end-is) refl
-
--- where it starts and ends
-pub bounds : (bs : List ℕ) (a t s e : ℕ) → Stands bs a t s e → (a + 3 ≤ e) × (s ≤ e) × (e ≤ length bs)
-bounds bs a t s e w = omega (arith, w .start-is, w .end-is, after-head bs a, whole-is bs a .0 (w .is-whole))
 
 -- ---- a turn of the loop: what is still to come from offset a on is what was to come at the start
 
@@ -92,11 +38,11 @@ pub record ToCome (bs : List ℕ) (a : ℕ) (f : JobFile) : Type 0 where
   pub rest : overFields (readField bs) room bs a f ≡ allFields bs
 
 module _ (bs : List ℕ) (a : ℕ) (f : JobFile) (next : ToCome bs a f) where
-  pub all-read : length bs ≤ a → allFields bs ≡ got f
+  all-read : length bs ≤ a → allFields bs ≡ got f
   all-read h = sym (next .rest) ∙ overFields-end (readField bs) (next .room) bs a f h
 
   module _ (h : a < length bs) where
-    pub field-refuses : (q : ℕ) → fieldAt bs a (f .fields) ≡ Refused q → allFields bs ≡ refused q
+    field-refuses : (q : ℕ) → fieldAt bs a (f .fields) ≡ Refused q → allFields bs ≡ refused q
     unfolding onField after
     field-refuses q e =
         let p = overFields-step (readField bs) (next .room) bs a f h (next .enough) in
@@ -118,7 +64,7 @@ module _ (bs : List ℕ) (a : ℕ) (f : JobFile) (next : ToCome bs a f) where
       unfolding Value
       same = let w = stands bs a (f .fields) t s e found in rw (value-is bs a t s e w, w .tag-is) (field-same bs f state held (at bs a) a (w .is-whole))
 
-      pub value-refuses : (q : ℕ) → takeField state t a (take (e - s) (drop s bs)) ≡ refused q → allFields bs ≡ refused q
+      value-refuses : (q : ℕ) → takeField state t a (take (e - s) (drop s bs)) ≡ refused q → allFields bs ≡ refused q
       unfolding Same after
       value-refuses q r = split .2 ∙ go Value (rw r at same)
         where
@@ -126,7 +72,7 @@ module _ (bs : List ℕ) (a : ℕ) (f : JobFile) (next : ToCome bs a f) where
           go (refused p) z = ap refused z
           go (got g) z = absurd z
 
-      pub value-taken : (state′ : State) → takeField state t a (take (e - s) (drop s bs)) ≡ got state′ → (g : JobFile) × Held bs g state′ × ToCome bs e g
+      value-taken : (state′ : State) → takeField state t a (take (e - s) (drop s bs)) ≡ got state′ → (g : JobFile) × Held bs g state′ × ToCome bs e g
       unfolding Same after
       value-taken state′ r = go Value (rw r at same) (split .2)
         where
@@ -181,7 +127,7 @@ grown s tag a v =
     k : ℕ
     k = s .fields
 
-pub taken-counts : (s s′ : State) (tag a : ℕ) (v : List ℕ) → takeField s tag a v ≡ got s′ → s′ .fields ≡ s .fields + 1
+taken-counts : (s s′ : State) (tag a : ℕ) (v : List ℕ) → takeField s tag a v ≡ got s′ → s′ .fields ≡ s .fields + 1
 unfolding Grown
 taken-counts s s′ tag a v e = subst (Grown (s .fields)) e (grown s tag a v)
 
@@ -194,31 +140,49 @@ pub record ReadTo (bs : List ℕ) (c : Counts) (o g t : List ℕ) (a : ℕ) : Ty
   pub held : Held bs file (stateOf c o g t)
   pub to-come : ToCome bs a file
 
-module _ (bs : List ℕ) (o g t : List ℕ) where
-  pub start-read : (c : Counts) → c .number ≡ 0 → c .fields ≡ 0 → Held bs noFields (stateOf c o g t) → ReadTo bs c o g t 0
-  start-read c n z h = record { well = n; counted = omega arith; inside = omega arith; file = noFields; held = h; to-come = record { room = length bs; enough = omega arith; rest = refl } }
+-- before the first field
+pub start-read : (bs o g t : List ℕ) (c : Counts) → c .number ≡ 0 → c .fields ≡ 0 → Held bs noFields (stateOf c o g t) → ReadTo bs c o g t 0
+start-read bs o g t c n z h = record {
+  well = n;
+  counted = omega arith;
+  inside = omega arith;
+  file = noFields;
+  held = h;
+  to-come = record { room = length bs; enough = omega arith; rest = refl };
+}
 
-  pub end-same : (c : Counts) (a : ℕ) → ReadTo bs c o g t a → length bs ≤ a → Same bs (allFields bs) (answerOf c o g t)
+module _ {bs o g t : List ℕ} {c : Counts} {a : ℕ} (r : ReadTo bs c o g t a) where
+  -- there is no field left
+  pub end-same : length bs ≤ a → Same bs (allFields bs) (answerOf c o g t)
   unfolding Same
-  end-same c a r h = rw (all-read bs a (r .file) (r .to-come) h, answer-got c o g t (r .well)) (r .held)
+  end-same h = rw (all-read bs a (r .file) (r .to-come) h, answer-got c o g t (r .well)) (r .held)
 
-  module _ (c : Counts) (a : ℕ) (r : ReadTo bs c o g t a) (d : Counts) (o′ g′ t′ : List ℕ) where
-    module _ (h : a < length bs) where
-      pub field-same-no : (q : ℕ) → fieldAt bs a (c .fields) ≡ Refused q → d .number ≡ q → Same bs (allFields bs) (answerOf d o′ g′ t′)
+  module _ (h : a < length bs) (d : Counts) (o′ g′ t′ : List ℕ) where
+    -- there is one, and its reader refuses it
+    pub field-same-no : (q : ℕ) → fieldAt bs a (c .fields) ≡ Refused q → d .number ≡ q → Same bs (allFields bs) (answerOf d o′ g′ t′)
+    unfolding Same
+    field-same-no q e n =
+        let all = field-refuses bs a (r .file) (r .to-come) h q (rw (← (r .held .fields-is)) e) in
+        rw (all, answer-refused d q o′ g′ t′ n (not-zero bs a (c .fields) q e)) refl
+
+    module _ (tag s e : ℕ) (found : fieldAt bs a (c .fields) ≡ Field tag s e)
+        (answer : answerOf d o′ g′ t′ ≡ takeField (stateOf c o g t) tag a (take (e - s) (drop s bs))) where
+      -- the file's own count of fields finds it too
+      same-found : fieldAt bs a (r .file .fields) ≡ Field tag s e
+      same-found = rw (← (r .held .fields-is)) found
+
+      -- its value is refused
+      pub value-same-no : (d .number ≡ 0 → ⊥) → Same bs (allFields bs) (answerOf d o′ g′ t′)
       unfolding Same
-      field-same-no q e n = rw (field-refuses bs a (r .file) (r .to-come) h q (rw (← (r .held .fields-is)) e), answer-refused d q o′ g′ t′ n (not-zero bs a (c .fields) q e)) refl
+      value-same-no n =
+          let q = answer-refused d (d .number) o′ g′ t′ refl n in
+          rw (q, value-refuses bs a (r .file) (r .to-come) h tag s e same-found (stateOf c o g t) (r .held) (d .number) (sym answer ∙ q)) refl
 
-      module _ (tag s e : ℕ) (found : fieldAt bs a (c .fields) ≡ Field tag s e) (answer : answerOf d o′ g′ t′ ≡ takeField (stateOf c o g t) tag a (take (e - s) (drop s bs))) where
-        pub value-same-no : (d .number ≡ 0 → ⊥) → Same bs (allFields bs) (answerOf d o′ g′ t′)
-        unfolding Same
-        value-same-no n =
-            let q = answer-refused d (d .number) o′ g′ t′ refl n in
-            rw (q, value-refuses bs a (r .file) (r .to-come) h tag s e (rw (← (r .held .fields-is)) found) (stateOf c o g t) (r .held) (d .number) (sym answer ∙ q)) refl
-
-        pub value-read : d .number ≡ 0 → ReadTo bs d o′ g′ t′ e
-        value-read n =
-            let q = sym answer ∙ answer-got d o′ g′ t′ n in
-            let w = value-taken bs a (r .file) (r .to-come) h tag s e (rw (← (r .held .fields-is)) found) (stateOf c o g t) (r .held) (stateOf d o′ g′ t′) q in
-            let b = bounds bs a tag s e (stands bs a (c .fields) tag s e found) in
-            let k = taken-counts (stateOf c o g t) (stateOf d o′ g′ t′) tag a (take (e - s) (drop s bs)) q in
-            record { well = n; counted = omega (arith, r .counted); inside = b .2; file = w .0; held = w .1; to-come = w .2 }
+      -- its value is taken
+      pub value-read : d .number ≡ 0 → ReadTo bs d o′ g′ t′ e
+      value-read n =
+          let q = sym answer ∙ answer-got d o′ g′ t′ n in
+          let w = value-taken bs a (r .file) (r .to-come) h tag s e same-found (stateOf c o g t) (r .held) (stateOf d o′ g′ t′) q in
+          let b = bounds bs a tag s e (stands bs a (c .fields) tag s e found) in
+          let k = taken-counts (stateOf c o g t) (stateOf d o′ g′ t′) tag a (take (e - s) (drop s bs)) q in
+          record { well = n; counted = omega (arith, r .counted); inside = b .2; file = w .0; held = w .1; to-come = w .2 }

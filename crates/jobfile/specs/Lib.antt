@@ -1,8 +1,6 @@
 -- The definitions of the reader (Reading), and its laws, each module after those it cites. Assumes nothing.
 pub mod Reading
-pub mod Names
 pub mod Values
-pub mod FieldWays
 pub mod NeedWays
 pub mod Holding
 pub mod FieldByField

@@ -6,34 +6,11 @@ use Prim.Native.Nat.{ℕ, _+_, _-_, _^_, _≤_, _<_}
 use lib.ListN.{length, set}
 use lib.Dec.{T, ltb, eqb}
 use Rattle.rules.specs.Basics.{choose, at}
-use Rattle.rules.specs.Fields.{Answer, refused, got, ask, numberOf, fieldEnd, value, whole}
-use Rattle.rules.specs.JobFile.{JobFile, fieldRow, nthJob, knownTag, inPlace, lengthOk, contentOk, jobOf, isJob, readFile}
+use Rattle.rules.specs.Fields.{Answer, refused, got, ask, numberOf, value, whole}
+use Rattle.rules.specs.JobFile.{JobFile, nthJob, contentOk, jobOf, isJob, readFile}
 use Rattle.jobset.specs.Sets.{member, setAt, with}
 use Rattle.jobset.specs.Arrays.{GiversAre, TakersAre}
-use Rattle.jobfile.specs.declared.FieldRow.{FieldRow}
-use Rattle.jobfile.specs.declared.FieldAnswer.{FieldAnswer}
-use Rattle.jobfile.specs.declared.FieldAnswer.the-variants.{Field, Refused}
 use Rattle.jobfile.specs.declared.Counts.{Counts}
-
--- the number of a refusal; 0 for a field
-abbrev pub refusalOf : FieldAnswer → ℕ
-refusalOf (Field t s e) = 0
-refusalOf (Refused q) = q
-
--- r is a row of the rules' table, and of a known tag its own
-pub record RowOf (tag : ℕ) (r : FieldRow) : Type 0 where
-  pub own : T (knownTag tag) → r .tag ≡ tag
-  pub known : T (knownTag (r .tag))
-  pub least-is : r .least ≡ fieldRow (r .tag) .least
-  pub greatest-is : r .greatest ≡ fieldRow (r .tag) .greatest
-
--- questions 3 to 5 of the field at offset a behind `fields` others, and 6 of its length
-unfoldable pub fieldAt : List ℕ → ℕ → ℕ → FieldAnswer
-fieldAt bs a fields =
-    choose (whole bs a)
-    (choose (knownTag (at bs a))
-    (choose (inPlace fields (at bs a))
-    (choose (lengthOk (at bs a) (length (value bs a))) (Field (at bs a) (a + 3) (fieldEnd bs a)) (Refused 6)) (Refused 5)) (Refused 4)) (Refused 3)
 
 -- what the code has read so far: counts, and the arrays of the job fields' offsets, of givers and of takers
 pub record State : Type 0 where
@@ -102,6 +79,14 @@ takeField s tag a v =
     (choose (eqb tag 3) (ask (ltb (s .jobs) 64) 7 (got (withOffset s a)))
     (choose (eqb tag 4) (takeNeed s (at v 0) (at v 1))
     (choose (eqb tag 9) (takeSockets s (at v 0)) (got (oneMore s (s .limit) (s .sockets)))))))
+
+-- counts with one field more
+unfoldable pub countedMore : Counts → Counts
+countedMore c = record { number = 0; sockets = c .sockets; fields = c .fields + 1; limit = c .limit; jobs = c .jobs }
+
+-- r is the answer to a field of this tag with the value v, whatever the arrays hold: it touches none of them
+abbrev pub FieldAnswered : Counts → ℕ → List ℕ → Counts → Type 0
+FieldAnswered c tag v r = (a : ℕ) (o g t : List ℕ) → answerOf r o g t ≡ takeField (stateOf c o g t) tag a v
 
 -- question 10 of the counts at the end
 unfoldable pub completeNumber : Counts → ℕ

@@ -29,9 +29,8 @@ impl Set {
         requires { ⌜ i < 64 ⌝ }
         ensures { λ r. ⌜ r ≡ with self i ⌝ }
     {
-        Set {
-            bits: self.bits | (1 << i),
-        }
+        let one = Set::one(i);
+        self.union(one)
     }
 
     // This set but i.
@@ -39,9 +38,8 @@ impl Set {
         requires { ⌜ i < 64 ⌝ }
         ensures { λ r. ⌜ r ≡ without self i ⌝ }
     {
-        Set {
-            bits: self.bits ^ (self.bits & (1 << i)),
-        }
+        let one = Set::one(i);
+        self.minus(one)
     }
 
     // This set but its lowest member.

@@ -2,7 +2,7 @@
 use mathlib.Core.Path.{_≡_, refl, sym, ap, _∙_}
 use mathlib.Core.Logic.{_⊎_, inl, inr, ⊎-elim, _↔_}
 use mathlib.Core.Bool.{Bool, true, false, _&&_, _||_}
-use mathlib.Core.List.{List, []}
+use mathlib.Core.List.{List, [], List·Memᴰ·not-nil}
 use mathlib.Core.Option.{Option, none, some}
 use Prim.Native.Nat.{ℕ, suc, _+_, _≤_, _<_}
 use native.Mathlib.Omega.{arith}
@@ -16,7 +16,8 @@ use Rattle.rules.specs.Program.{Kept}
 use Rattle.rules.specs.Boards.{sweep, giverBefore, lowestFree, Placing, inherit, firstFit, inheritIn, firstFitIn, slotBoards, inSlot}
 use Rattle.laws.specs.Tests.{T-and, T-or, T-ltb, T-eqb, tests}
 use Rattle.laws.specs.Counting.{count-lt}
-use Rattle.laws.specs.BoardRules.{GiverBefore, nobody, giver, giver-before, lowest-in, lowest-new, sweep-inv}
+use Rattle.laws.specs.BoardRules.{GiverBefore, nobody, giver, giver-before, lowest-all, lowest-in, lowest-new, sweep-inv}
+use Rattle.laws.specs.BoardWords.{Inherits, TakesFirst, Left, LowestLeft, lowest-same}
 use Rattle.laws.specs.BoardStep.{Given, Placed, placed-same, placed-more}
 
 -- there is one
@@ -36,13 +37,21 @@ module _ (n : ℕ) (needs : List Need) (needs-in : NeedsIn n needs) (t : List �
     inheritsb : ℕ → Bool
     inheritsb i = isSome (giverBefore needs t i)
 
-    has-giver : (i : ℕ) → T (inheritsb i) → (g : ℕ) × Gives needs g i × (at t g + 1 ≡ at t i)
+    has-giver : (i : ℕ) → T (inheritsb i) → Inherits needs t i
     unfolding inheritsb isSome
     has-giver i h = go (giverBefore needs t i) (giver-before needs t i) h
       where
-        go : (o : Option ℕ) → GiverBefore needs t i o → T (isSome o) → (g : ℕ) × Gives needs g i × (at t g + 1 ≡ at t i)
+        go : (o : Option ℕ) → GiverBefore needs t i o → T (isSome o) → Inherits needs t i
         go _ (nobody k) h = absurd h
         go _ (giver g a e) h = (g, a, e)
+
+    with-giver : (i : ℕ) → Inherits needs t i → T (inheritsb i)
+    unfolding inheritsb isSome
+    with-giver i w = go (giverBefore needs t i) (giver-before needs t i)
+      where
+        go : (o : Option ℕ) → GiverBefore needs t i o → T (isSome o)
+        go _ (nobody k) = k (w .0) (w .1) (w .2)
+        go _ (giver g a e) = tt
 
     -- the jobs that have their boards when the pass comes to job x
     first : ℕ → ℕ → Bool
@@ -57,10 +66,12 @@ module _ (n : ℕ) (needs : List Need) (needs-in : NeedsIn n needs) (t : List �
       len = old .len;
       past = λ i l h. refl;
       used = λ i l e d. absurd (omega (arith, in-first 0 i .0 d));
+      users = λ c k. absurd (List·Memᴰ·not-nil k);
       low = λ i l e d. absurd (omega (arith, in-first 0 i .0 d));
       bound = λ i l e d. absurd (omega (arith, in-first 0 i .0 d));
       apart = λ i j l k e f d c h. absurd (omega (arith, in-first 0 i .0 d));
       inherits = λ g i a e d h. absurd (omega (arith, in-first 0 i .0 d));
+      lowest = λ i l e d k. absurd (omega (arith, in-first 0 i .0 d));
       size = omega arith;
     }
 
@@ -86,7 +97,8 @@ module _ (n : ℕ) (needs : List Need) (needs-in : NeedsIn n needs) (t : List �
             (λ i l u. up i) (λ i l u d. split i (in-first (suc x) i .0 d) (ℕ-discrete i x))
             (rw same (old .low g g-in g-past)) (rw same (old .bound g g-in g-past))
             (λ i l u d v. omega (arith, in-first x i .0 d, one-taker i l u (in-first x i .0 d .1) d v))
-            (λ j c u. same ∙ ap (at b₀) (kept .take-one g j x a c q (u ∙ sym (f .0 tt)))) m
+            (λ j c u. same ∙ ap (at b₀) (kept .take-one g j x a c q (u ∙ sym (f .0 tt))))
+            (λ k. absurd (k (g, a, q))) (λ i l u d k. absurd (k (has-giver i (in-first (suc x) i .0 d .1)))) m
           where
             g-in : g < n
             g-in = needs-in g x a .0
@@ -157,10 +169,44 @@ module _ (n : ℕ) (needs : List Need) (needs-in : NeedsIn n needs) (t : List �
         go true f _ e (nobody k) =
             placed-more n needs t M s b₀ needs-in (second x) (second (suc x)) z x (lowestFree (length (z .0)) 1 (z .0)) (omega arith) (f .0 tt) out (below-second (suc x) x (omega arith)) (λ i l u. up i) (λ i l u. split i)
             (lowest-in (length (z .0)) 1 (z .0) .0) (omega (arith, lowest-in (length (z .0)) 1 (z .0) .1, m .size, room, full))
-            (λ i l u d v. lowest-new (length (z .0)) (z .0) (omega arith) (rw v at (m .used i l u d))) (λ g a u. absurd (k g a (u ∙ sym (f .0 tt)))) m
+            (λ i l u d v. lowest-new (length (z .0)) (z .0) (omega arith) (rw v at (m .used i l u d))) (λ g a u. absurd (k g a (u ∙ sym (f .0 tt))))
+            (λ w. lowest-free) last m
           where
             out : ¬ T (second x x)
             out d = ⊎-elim (λ q. let w = has-giver x q in k (w .0) (w .1) (w .2)) (λ q. omega (arith, q)) (in-second x x d)
+
+            -- the jobs that take first have their boards, and no others
+            first-is : (j : ℕ) → T (second x j) ↔ TakesFirst needs t j x
+            first-is j = (
+              λ d. ⊎-elim (λ q. inl (has-giver j q)) (λ q. inr (omega (arith, q))) (in-second x j d),
+              λ p. ⊎-elim (λ q. inherits-second x j (with-giver j q)) (λ q. below-second x j (omega (arith, q))) p,
+            )
+
+            lowest-free : LowestLeft n needs t (z .1) x (lowestFree (length (z .0)) 1 (z .0))
+            lowest-free = record {
+              left = record {
+                from-1 = lowest-in (length (z .0)) 1 (z .0) .0;
+                not-taken = λ w. lowest-new (length (z .0)) (z .0) (omega arith)
+                    (rw (w .has-it) at (m .used (w .job) (w .in-file) (w .beside ∙ f .0 tt) (first-is (w .job) .1 (w .first))));
+              };
+              lowest = λ v w. not-below v w (decLt v (lowestFree (length (z .0)) 1 (z .0)));
+            }
+              where
+                not-below : (v : ℕ) → Left n needs t (z .1) x v → Dec (v < lowestFree (length (z .0)) 1 (z .0)) → lowestFree (length (z .0)) 1 (z .0) ≤ v
+                not-below v w (no h) = omega arith
+                not-below v w (yes h) =
+                    let u = m .users v (lowest-all (length (z .0)) 1 (z .0) v (w .from-1) h) in
+                    absurd (w .not-taken (record {
+                      job = u .0;
+                      in-file = u .1;
+                      beside = u .2 ∙ sym (f .0 tt);
+                      first = first-is (u .0) .0 (u .3);
+                      has-it = u .4;
+                    }))
+
+            last : (i : ℕ) → i < n → at t i ≡ s → T (second (suc x) i) → ¬ Inherits needs t i → ¬ TakesFirst needs t x i
+            last i l u d w p =
+                ⊎-elim (λ q. w (has-giver i q)) (λ q. ⊎-elim (λ v. k (v .0) (v .1) (v .2)) (λ v. omega (arith, q, v)) p) (in-second (suc x) i d)
 
             room : count (λ i. inSlot t s i && second x i) n < count (inSlot t s) n
             room = unfold inSlot in
@@ -187,6 +233,9 @@ module _ (n : ℕ) (needs : List Need) (needs-in : NeedsIn n needs) (t : List �
           inherits = λ g k a h e. let u = needs-in g k a in
               by (λ q. m .past k (u .1) q ∙ old .inherits g k a q e ∙ sym (m .past g (u .0) (omega (arith, e))))
               (λ q. m .inherits g k a q (done k (u .1)) (e ∙ q) ∙ sym (m .past g (u .0) (omega (arith, e)))) (decLt (at t k) s) h;
+          lowest = λ i l h w.
+              by (λ q. rw (m .past i l q) (lowest-same n needs t b₀ (z .1) i (at b₀ i) (λ j k e _. sym (m .past j k (omega (arith, e)))) (old .lowest i l q w)))
+              (λ q. m .lowest i l q (done i l) w) (decLt (at t i) s) h;
         }
           where
             done : (i : ℕ) → i < n → T (second n i)

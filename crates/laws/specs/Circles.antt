@@ -127,3 +127,8 @@ module _ (n : ℕ) (needs : List Need) (needs-in : NeedsIn n needs) where
     λ t c. marked-free n n (c .0) (omega arith) (T-all (marked (rounds n needs n)) (range n 0) .0 t (c .0) (range-below n (c .0) .1 (start-in (c .0) (c .0) (c .1)))) (c .1),
     λ k. T-all (marked (rounds n needs n)) (range n 0) .1 (λ i m. free-marked k i (range-below n i .0 m)),
   )
+
+  -- where it fails there is one
+  pub circle-found : ¬ T (circleFree n needs) → Circle needs
+  unfolding circleFree
+  circle-found h = let (i, m, k) = not-all (marked (rounds n needs n)) (range n 0) h in repeats i (range-below n i .0 m) k

@@ -11,9 +11,9 @@ use Rattle.rules.specs.Sizes.{maxFile}
 use Rattle.rules.specs.Basics.{choose, at}
 use Rattle.rules.specs.Fields.{Answer, refused, got, ask, after, part, field, fieldEnd, value, whole, overFields}
 use Rattle.rules.specs.JobFile.{JobFile, knownTag, inPlace, lengthOk, contentOk, addField, readField, noFields, complete, readFile}
-use Rattle.laws.specs.Tests.{T-leb, T-ltb, bool-ext}
-use Rattle.laws.specs.Fields.{ask-yes, GotBeside, got-beside, ask-beside, choose-beside, after-beside}
-use Rattle.laws.specs.Fields.{whole-is, overFields-step, overFields-end, overFields-enough}
+use Rattle.laws.specs.Tests.{T-leb, T-ltb, bool-ext, by-choice}
+use Rattle.laws.specs.Fields.{ask-got, after-got, ask-yes, GotBeside, got-beside, ask-beside, choose-beside, after-beside}
+use Rattle.laws.specs.Fields.{whole-is, after-head, overFields-step, overFields-end, overFields-enough}
 use Rattle.laws.specs.Table.{field-at}
 
 -- ---- what is read from an offset on
@@ -65,6 +65,25 @@ pub readFrom-step : (bs : List ℕ) (a : ℕ) (f : JobFile) → a < length bs �
 readFrom-step bs a f h =
     let p = overFields-step (readField bs) (length bs) bs a f h (omega arith) in
     p .2 ∙ ap (after (readField bs f a)) (fun-ext (λ g. overFields-bounds (readField bs) (p .0) (length bs) bs (fieldEnd bs a) g (p .1) (omega arith)))
+
+-- what is read without a refusal is whole fields
+read-fields : (bs : List ℕ) (k a : ℕ) → length bs - a ≤ k → a ≤ length bs → (f e : JobFile) → overFields (readField bs) k bs a f ≡ got e → FieldsFrom bs a
+unfolding overFields readField
+read-fields bs zero a l h f e = λ _. done a (omega arith)
+read-fields bs (suc k) a l h f e =
+    by-choice (λ (r : Answer JobFile). r ≡ got e → FieldsFrom bs a) (ltb a (length bs)) (λ _ q.
+    let w = after-got (readField bs f a) (overFields (readField bs) k bs (fieldEnd bs a)) e q in
+    let here = ask-got (whole bs a) 3 _ (w .0) (w .1) .0 in
+    let ends = whole-is bs a .0 here in
+    more a here (read-fields bs k (fieldEnd bs a) (omega (arith, l, ends, after-head bs a)) (ends .1) (w .0) e (w .2)))
+    (λ n _. let end : a < length bs → ⊥ = λ i. n (T-ltb a (length bs) .1 i) in done a (omega (arith, h, end)))
+
+-- so a readable file is
+pub readable-fields : (bs : List ℕ) (f : JobFile) → readFile bs ≡ got f → Fields bs
+unfolding readFile
+readable-fields bs f q =
+    let w = after-got (readFrom bs 0 noFields) complete f (ask-got (leb (length bs) maxFile) 2 _ f q .1) in
+    read-fields bs (length bs) 0 (omega arith) (omega arith) noFields (w .0) (w .1)
 
 -- ---- a file of two parts
 

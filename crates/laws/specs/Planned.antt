@@ -3,14 +3,14 @@ use mathlib.Core.Path.{_≡_, refl, sym, ap, subst, _∙_}
 use mathlib.Core.Logic.{_↔_}
 use mathlib.Core.List.{List}
 use mathlib.Core.Option.{Option, none, some}
-use Prim.Native.Nat.{ℕ, zero, suc, _+_, _≤_, _<_}
+use Prim.Native.Nat.{ℕ, _≤_, _<_}
 use native.Mathlib.Omega.{arith}
 use lib.ListN.{length}
 use lib.Dec.{T, leb, eqb}
 use Rattle.rules.specs.Sizes.{maxWidth}
-use Rattle.rules.specs.Basics.{at, tabulate, largest}
+use Rattle.rules.specs.Basics.{at, largest}
 use Rattle.rules.specs.Numbers.{centimetres}
-use Rattle.rules.specs.Fields.{Answer, refused, got}
+use Rattle.rules.specs.Fields.{Answer, refused, got, numberOf, ask}
 use Rattle.rules.specs.Needs.{Gives, Circle, circleFree}
 use Rattle.rules.specs.JobFile.{JobFile, nthJob, mostBoards}
 use Rattle.rules.specs.Program.{SatisfiesP, slots, Fits, Kept, keptb}
@@ -20,23 +20,17 @@ use Rattle.rules.specs.Boards.{BoardRules, boards, Capped, runsb}
 use Rattle.rules.specs.Table.{Row, Table, starts, boardsOf, encode, decode}
 use Rattle.rules.specs.Answers.{tableOf, tabled, planTable}
 use Rattle.laws.specs.Tests.{T-leb, T-eqb}
-use Rattle.laws.specs.Lists.{nth-mem, tabulate-at, length-tabulate, map-tabulate-list}
-use Rattle.laws.specs.Counting.{at-largest}
-use Rattle.laws.specs.Numbers.{centimetres-in}
+use Rattle.laws.specs.Lists.{tabulate-at, length-tabulate, map-tabulate-list}
 use Rattle.laws.specs.Fields.{ask-yes, ask-no}
 use Rattle.laws.specs.JobFile.{Readable, needs-in}
-use Rattle.laws.specs.Program.{program-is}
+use Rattle.laws.specs.Program.{slots-fits, program-is}
 use Rattle.laws.specs.Circles.{circle-free}
+use Rattle.laws.specs.Refusals.{refusal-ask, asked-number, circle-number, tabled-number}
 use Rattle.laws.specs.Caps.{capped-more}
 use Rattle.laws.specs.Best.{Satisfies, Shortest, best-uncapped, best-found, best-none, best-some}
 use Rattle.laws.specs.BoardLaws.{boards-length, boards-low, boards-rules, boards-capped, width-capped}
-use Rattle.laws.specs.Table.{RowOk, RowsOk, TableOk, decode-encode}
-use Rattle.laws.specs.Check.{TableFor}
-
-rows-ok : (row : ℕ → Row) (k j : ℕ) → ((i : ℕ) → j ≤ i → i < j + k → RowOk (row i)) → RowsOk (tabulate row k j)
-unfolding tabulate
-rows-ok row zero j h = tt
-rows-ok row (suc k) j h = (h j (omega arith) (omega arith), rows-ok row k (suc j) (λ i a b. h i (omega arith) (omega arith)))
+use Rattle.laws.specs.Table.{TableOk, decode-encode}
+use Rattle.laws.specs.Check.{TableFor, table-writable}
 
 -- ---- a readable file; then one without a circle, no wider than eight
 
@@ -53,21 +47,53 @@ module _ (f : JobFile) (ok : Readable f) where
       → best (length (f .jobs)) (runsb (length (f .jobs)) (f .needs) c) (f .limit) ≡ best (length (f .jobs)) (keptb (f .needs)) (f .limit)
   wide-enough c h = best-uncapped (length (f .jobs)) (f .needs) c (f .limit) (wide-capped c h)
 
+  -- 11 exactly where there is a circle
+  pub numbered-11 : (numberOf (planTable f) ≡ 11) ↔ Circle (f .needs)
+  unfolding planTable
+  numbered-11 =
+      circle-number (length (f .jobs)) (f .needs) (needs-in f ok) _
+      (refusal-ask (λ p. p ≡ 11 → ⊥) _ 12 _ (λ e. omega (arith, e)) (tabled-number (λ p. p ≡ 11 → ⊥) (λ e. omega (arith, e)) f _))
+
+  -- question 12, where there is none
+  asked-12 : ¬ (Circle (f .needs)) → let n = length (f .jobs) in
+      planTable f ≡ ask (leb (width n (f .needs) (f .limit)) maxWidth) 12 (tabled f (best n (runsb n (f .needs) (mostBoards f)) (f .limit)))
+  unfolding planTable
+  asked-12 free = ask-yes (circleFree (length (f .jobs)) (f .needs)) 11 _ (circle-free (length (f .jobs)) (f .needs) (needs-in f ok) .1 free)
+
   -- without a circle and wider than eight it gets 12
   pub too-wide : ¬ (Circle (f .needs)) → maxWidth < width (length (f .jobs)) (f .needs) (f .limit) → planTable f ≡ refused 12
-  unfolding planTable
   too-wide free wide =
       let w = width (length (f .jobs)) (f .needs) (f .limit) in
-      ask-yes (circleFree (length (f .jobs)) (f .needs)) 11 _ (circle-free (length (f .jobs)) (f .needs) (needs-in f ok) .1 free)
-      ∙ ask-no (leb w maxWidth) 12 _ (λ h. omega (arith, wide, T-leb w maxWidth .0 h))
+      asked-12 free ∙ ask-no (leb w maxWidth) 12 _ (λ h. omega (arith, wide, T-leb w maxWidth .0 h))
+
+  -- and only then
+  pub numbered-12 : (numberOf (planTable f) ≡ 12) ↔ ((¬ (Circle (f .needs))) × (maxWidth < width (length (f .jobs)) (f .needs) (f .limit)))
+  unfolding numberOf
+  numbered-12 = (
+    λ e.
+        let free : ¬ (Circle (f .needs)) = λ c. omega (arith, e, numbered-11 .1 c) in
+        (free, omega (arith, above (asked .0 (sym (ap numberOf (asked-12 free)) ∙ e)))),
+    λ h. ap numberOf (too-wide (h .0) (h .1)),
+  )
+    where
+      w : ℕ
+      w = width (length (f .jobs)) (f .needs) (f .limit)
+
+      rest : Answer Table
+      rest = tabled f (best (length (f .jobs)) (runsb (length (f .jobs)) (f .needs) (mostBoards f)) (f .limit))
+
+      asked : (numberOf (ask (leb w maxWidth) 12 rest) ≡ 12) ↔ (¬ T (leb w maxWidth))
+      asked = asked-number (leb w maxWidth) 12 rest (λ z. omega (arith, z)) (tabled-number (λ p. p ≡ 12 → ⊥) (λ e. omega (arith, e)) f _)
+
+      above : ¬ T (leb w maxWidth) → w ≤ maxWidth → ⊥
+      above k h = k (T-leb w maxWidth .1 h)
 
   module _ (free : ¬ (Circle (f .needs))) (narrow : width (length (f .jobs)) (f .needs) (f .limit) ≤ maxWidth) where
     -- the questions before 13 are yes
     pub asked-13 : planTable f ≡ tabled f (best (length (f .jobs)) (runsb (length (f .jobs)) (f .needs) (mostBoards f)) (f .limit))
-    unfolding planTable
     asked-13 =
-        ask-yes (circleFree (length (f .jobs)) (f .needs)) 11 _ (circle-free (length (f .jobs)) (f .needs) (needs-in f ok) .1 free)
-        ∙ ask-yes (leb (width (length (f .jobs)) (f .needs) (f .limit)) maxWidth) 12 _ (T-leb (width (length (f .jobs)) (f .needs) (f .limit)) maxWidth .1 narrow)
+        let w = width (length (f .jobs)) (f .needs) (f .limit) in
+        asked-12 free ∙ ask-yes (leb w maxWidth) 12 _ (T-leb w maxWidth .1 narrow)
 
     found : (o : Option (List ℕ)) (x : Answer Table) → tabled f o ≡ x → best (length (f .jobs)) (runsb (length (f .jobs)) (f .needs) (mostBoards f)) (f .limit) ≡ o → planTable f ≡ x
     found o x e q = asked-13 ∙ ap (tabled f) q ∙ e
@@ -105,7 +131,7 @@ module _ (f : JobFile) (ok : Readable f) where
         go none q h = absurd (let z : _≡_ {A = ℕ} 0 1 = cc in omega arith)
         go (some t) q h = (t, found-shortest t q, let z : tableOf f t ≡ T = cc in sym z)
 
-    -- ---- what the bytes of such a table can hold
+    -- ---- the boards of such a table
 
     module _ (t : List ℕ) (short : Shortest (length (f .jobs)) (f .needs) (mostBoards f) (f .limit) t) where
       kept : Kept (Gives (f .needs)) (at t) × Fits (length (f .jobs)) (slots t) t
@@ -117,19 +143,6 @@ module _ (f : JobFile) (ok : Readable f) where
       -- a board for each job
       placed : length (boards (length (f .jobs)) (f .needs) t) ≡ length (f .jobs)
       placed = boards-length (length (f .jobs)) (f .needs) (needs-in f ok) t (kept .1 .len) (kept .0)
-
-      pub table-ok : TableOk (tableOf f t)
-      unfolding tableOf
-      table-ok = record {
-        slots-in = omega (arith, short .fits, ok .limit-in .1);
-        boards-in = omega (arith, few-boards, ok .boards-in .1);
-        rows-ok = rows-ok _ (length (f .jobs)) 0 (λ i _ h. record {
-          start-in = omega (arith, kept .1 .below i (omega arith), short .fits, ok .limit-in .1);
-          board-in = omega (arith, few-boards, ok .boards-in .1, at-largest (boards (length (f .jobs)) (f .needs) t) i (omega (arith, placed)));
-          level-in = centimetres-in (nthJob (f .jobs) i .level) (ok .levels-in (nthJob (f .jobs) i) (nth-mem (f .jobs) i _ (omega arith)));
-          name-ok = ok .names-in (nthJob (f .jobs) i) (nth-mem (f .jobs) i _ (omega arith));
-        });
-      }
 
       -- ---- the table reads back, and passes the check
 
@@ -151,11 +164,12 @@ module _ (f : JobFile) (ok : Readable f) where
       pub table-for : TableFor f (tableOf f t)
       unfolding tableOf
       table-for = record {
+        rows-are = rows-count;
         labels = record {
           names = λ i h. ap (λ (r : Row). r .name) (tabulate-at _ (length (f .jobs)) 0 i _ h) ∙ ap (λ (j : ℕ). nthJob (f .jobs) j .name) (omega arith);
           levels = λ i h. ap (λ (r : Row). r .level) (tabulate-at _ (length (f .jobs)) 0 i _ h) ∙ ap (λ (j : ℕ). centimetres (nthJob (f .jobs) j .level)) (omega arith);
         };
-        satisfies = subst (SatisfiesP (length (f .jobs)) (f .needs) (slots t)) (sym starts-are) (short .satisfies);
+        satisfies = subst (SatisfiesP (length (f .jobs)) (f .needs) (f .limit)) (sym starts-are) in-limit;
         capped = subst (Capped (length (f .jobs)) (mostBoards f)) (sym starts-are) (short .capped);
         sizes = record {
           slots-are = ap slots (sym starts-are);
@@ -168,6 +182,15 @@ module _ (f : JobFile) (ok : Readable f) where
             (subst (BoardRules (length (f .jobs)) (f .needs) t) (sym boards-are)
             (boards-rules (length (f .jobs)) (f .needs) (needs-in f ok) t (kept .1 .len) (kept .0)));
       }
+        where
+          in-limit : SatisfiesP (length (f .jobs)) (f .needs) (f .limit) t
+          in-limit =
+              program-is (length (f .jobs)) (f .needs) (f .limit) t (ok .distinct) (needs-in f ok) .1
+              (kept .0, slots-fits (length (f .jobs)) (f .limit) t (kept .1 .len) (short .fits))
+
+      -- it can be written
+      pub table-ok : TableOk (tableOf f t)
+      table-ok = table-writable f ok (tableOf f t) table-for
 
       pub reads-back : decode (eqb (length (f .jobs))) (encode (tableOf f t)) ≡ got (tableOf f t)
       reads-back = decode-encode (eqb (length (f .jobs))) (tableOf f t) table-ok (T-eqb (length (f .jobs)) (length (tableOf f t .rows)) .1 (sym rows-count))

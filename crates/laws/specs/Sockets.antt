@@ -153,7 +153,7 @@ module _ (xs ys : List ℕ) (fields : Fields xs) (f : JobFile) (read : readFile 
   unfolding mostBoards choose
   eight-most = rw (sockets-read _ xs ys fields f read .0) refl
 
-  -- the planner answers the same number and length, and leaves the same bytes in both buffers
+  -- the planner answers the same number and size, and leaves the same bytes in both buffers
   pub eight-planned : (work table : List ℕ) → plan (xs ++ (eightBoards ++ ys)) work table ≡ plan (xs ++ ys) work table
   unfolding plan after
   eight-planned work table = rw (read, sockets-read _ xs ys fields f read .1, planTable-without f eight-most) refl

@@ -1,8 +1,9 @@
--- Reading a table back: decoding what was encoded gives the same table; its size. Assumes nothing.
+-- Reading a table back: decoding what was encoded gives the same table; what it takes to decode; the size of a table. Assumes nothing.
 use mathlib.Core.Path.{_≡_, refl, sym, ap, subst, _∙_}
+use mathlib.Core.Logic.{_↔_}
 use mathlib.Core.Bool.{Bool, _&&_}
 use mathlib.Core.List.{List, [], _∷_, _++_, append-assoc, append-nil}
-use Prim.Native.Nat.{ℕ, _+_, _-_, _*_, _≤_, _<_}
+use Prim.Native.Nat.{ℕ, suc, _+_, _-_, _*_, _≤_, _<_}
 use native.Mathlib.Omega.{arith}
 use lib.ListN.{length, take, drop, length-append}
 use lib.Seq.{getD-append-add, getD-append-seam, drop-append-add, take-append-seam}
@@ -12,10 +13,10 @@ use Rattle.rules.specs.Basics.{at}
 use Rattle.rules.specs.Numbers.{word, low, high, signed, unsigned, InRange}
 use Rattle.rules.specs.Fields.{Answer, got, ask, after, part, field, fieldEnd, value, whole, overFields}
 use Rattle.rules.specs.JobFile.{nameOk}
-use Rattle.rules.specs.Table.{Row, Table, rowBytes, rowsBytes, encode, rowOf, readRow, headOk, decode}
+use Rattle.rules.specs.Table.{Row, Table, nthRow, rowBytes, rowsBytes, encode, rowOf, readRow, headOk, decode}
 use Rattle.laws.specs.Tests.{tests}
 use Rattle.laws.specs.Numbers.{word-split, signed-unsigned}
-use Rattle.laws.specs.Fields.{ask-yes, whole-is, overFields-step, overFields-end}
+use Rattle.laws.specs.Fields.{ask-got, after-got, ask-yes, whole-is, overFields-step, overFields-end}
 
 -- ---- a field in the middle of a file
 
@@ -62,11 +63,16 @@ abbrev pub RowsOk : List Row → Type 0
 RowsOk [] = Unit {0}
 RowsOk (r ∷ rs) = RowOk r × RowsOk rs
 
+-- all rows are such where each of them is
+pub rows-each : (rows : List Row) → ((i : ℕ) → i < length rows → RowOk (nthRow rows i)) → RowsOk rows
+rows-each [] each = tt
+rows-each (r ∷ rows) each = (each 0 (omega arith), rows-each rows (λ i h. each (suc i) (omega arith)))
+
 -- the value bytes of a row
 abbrev rowValue : Row → List ℕ
 rowValue r = r .start ∷ r .board ∷ low (unsigned (r .level)) ∷ high (unsigned (r .level)) ∷ r .name
 
-name-length : (name : List ℕ) → T (nameOk name) → (1 ≤ length name) × (length name ≤ 12)
+pub name-length : (name : List ℕ) → T (nameOk name) → (1 ≤ length name) × (length name ≤ 12)
 unfolding nameOk
 name-length name h = let w = simp tests at h in (w .0, w .1 .0)
 
@@ -111,6 +117,7 @@ module _ (bs : List ℕ) where
 
 -- ---- the whole table
 
+-- a table that bytes can hold: slots, boards, starts and boards of jobs are bytes, levels two-byte numbers, and names are names
 pub record TableOk (t : Table) : Type 0 where
   pub slots-in : t .slots < 256
   pub boards-in : t .boards < 256
@@ -132,6 +139,40 @@ decode-encode few t ok h = ask-yes (headOk bs) 14 _ head-ok ∙ ap (λ (x : Answ
 
     head-ok : T (headOk bs)
     head-ok = unfold headOk fieldEnd value part word in simp tests (whole-is bs 0 .1 (omega arith), (tt, (tt, refl)))
+
+-- ---- what it takes to decode
+
+-- all rows that stand in the bytes
+abbrev pub allRows : List ℕ → Answer (List Row)
+allRows bs = overFields (readRow bs) (length bs) bs 6 []
+
+-- question 14 of the bytes: their head, all rows, and as many of them as are allowed; slots and boards are two bytes of the head
+pub record DecodesTo (few : ℕ → Bool) (bs : List ℕ) (t : Table) : Type 0 where
+  pub head : T (headOk bs)
+  pub rows-are : allRows bs ≡ got (t .rows)
+  pub few-rows : T (few (length (t .rows)))
+  pub slots-is : at bs 4 ≡ t .slots
+  pub boards-is : at bs 5 ≡ t .boards
+
+-- bytes decode to a table exactly where they keep this
+pub decodes-to : (few : ℕ → Bool) (bs : List ℕ) (t : Table) → (decode few bs ≡ got t) ↔ DecodesTo few bs t
+unfolding decode after
+decodes-to few bs t = (
+  λ e. let h = ask-got (headOk bs) 14 _ t e in
+      let w = after-got (allRows bs) _ t (h .1) in
+      let c = ask-got (few (length (w .0))) 14 _ t (w .2) in
+      let q : _≡_ {A = Table} (record { slots = at bs 4; boards = at bs 5; rows = w .0 }) t = cc (c .1) in
+      record {
+        head = h .0;
+        rows-are = w .1 ∙ ap (λ (u : Table). got (u .rows)) q;
+        few-rows = subst (λ (u : Table). T (few (length (u .rows)))) q (c .0);
+        slots-is = ap (λ (u : Table). u .slots) q;
+        boards-is = ap (λ (u : Table). u .boards) q;
+      },
+  λ d. ask-yes (headOk bs) 14 _ (d .head) ∙ rw (d .rows-are, d .slots-is, d .boards-is) (ask-yes (few (length (t .rows))) 14 _ (d .few-rows)),
+)
+
+-- ---- the size
 
 rows-length : (rs : List Row) → RowsOk rs → length (rowsBytes rs) ≤ 19 * length rs
 unfolding rowsBytes rowBytes field

@@ -1,7 +1,8 @@
 -- Questions 2 to 12 and 21: a refusal, or what the rest is given. Assumes nothing.
-use mathlib.Core.Path.{_≡_, refl, sym, ap, ap₂, _∙_}
+use mathlib.Core.Path.{_≡_, refl, sym, ap, ap₂, subst, _∙_}
 use mathlib.Core.Bool.{true, false}
 use mathlib.Core.List.{List, _++_, map}
+use mathlib.Core.Option.{Option}
 use Prim.Native.Nat.{ℕ, _+_, _-_, _*_, _/_, _≤_, _<_}
 use native.Mathlib.Omega.{arith}
 use native.Mathlib.Nat.{add-mul, one-mul, div-lt-iff-lt-mul}
@@ -51,18 +52,26 @@ rounded-up n c s p h = let l : n + (c - 1) < (s + 1) * c = omega (arith, add-mul
 
 -- ---- questions 2 to 10, and 21
 
-module _ (bs : List ℕ) (r : Counts) (o g t : List ℕ) (reads : Reads bs r o g t) where
+module _ {bs : List ℕ} {r : Counts} {o g t : List ℕ} (reads : Reads bs r o g t) where
   -- the reader refuses
-  pub read-refused : (q : ℕ) (table : List ℕ) → r .number ≡ q → (q ≡ 0 → ⊥) → Answers bs (made.Refused q) table table
+  pub read-refused : (table : List ℕ) → (r .number ≡ 0 → ⊥) → Answers bs (made.Refused (r .number)) table table
   unfolding after
-  read-refused q table e n = answers-refused bs q table (ap (λ (x : Answer JobFile). after x planTable) (number-refused (readFile bs) q (sym e ∙ reads .number-is) n))
+  read-refused table n =
+      let e = number-refused (readFile bs) (r .number) (reads .number-is) n in
+      answers-refused bs (r .number) table (ap (λ (x : Answer JobFile). after x planTable) e)
 
   -- or the arrays hold the file
   pub jobs-read : r .number ≡ 0 → ((i : ℕ) → at bs i < 256) → JobsRead bs (r .jobs) (r .limit) o g t
   jobs-read z bytes =
-      let f = read-got bs (sym (reads .number-is) ∙ z) in
-      let h = reads .held (f .0) (f .1) in
-      record { file = f .0; read = f .1; keeps = readable bs (bytes-all bs bytes) (f .0) (f .1); held = recounted bs (f .0) _ h (f .0 .fields) (f .0 .fields) (r .limit) (f .0 .limit) (f .0 .sockets) (f .0 .sockets) refl (h .limit-is) refl }
+      let w = read-got bs (sym (reads .number-is) ∙ z) in
+      let f = w .0 in
+      let h = reads .held f (w .1) in
+      record {
+        file = f;
+        read = w .1;
+        keeps = readable bs (bytes-all bs bytes) f (w .1);
+        held = recounted bs f _ h (f .fields) (f .fields) (r .limit) (f .limit) (f .sockets) (f .sockets) refl (h .limit-is) refl;
+      }
 
   -- and the most boards are those that it says
   pub boards-read : (j : JobsRead bs (r .jobs) (r .limit) o g t) (b : ℕ) → b ≡ choose (eqb (r .sockets) 0) 8 (r .sockets) → b ≡ mostBoards (j .file)
@@ -71,118 +80,165 @@ module _ (bs : List ℕ) (r : Counts) (o g t : List ℕ) (reads : Reads bs r o g
 
 -- ---- questions 11 and 12
 
-module _ (bs : List ℕ) (n L : ℕ) (o g t : List ℕ) (j : JobsRead bs n L o g t) where
+module _ {bs : List ℕ} {n L : ℕ} {o g t : List ℕ} (j : JobsRead bs n L o g t) where
+  -- the file, its jobs and its needs
+  abbrev f : JobFile
+  f = j .file
+
+  abbrev m : ℕ
+  m = size f
+
+  abbrev needs : List Need
+  needs = f .needs
+
+  -- the levels are the file's: by the givers, and by the takers, which are the givers of the reversed needs
+  abbrev pub ByGivers : JobLevels → Type 0
+  ByGivers l = l ≡ levelsOf n needs
+
+  abbrev pub ByTakers : JobLevels → Type 0
+  ByTakers l = l ≡ levelsOf n (map swap needs)
+
+  -- those by the givers say that there is no circle
+  pub record NoCircle (before : JobLevels) : Type 0 where
+    pub levels-are : ByGivers before
+    pub free : before .ok ≡ true
+
+  -- and the tables hold the windows that both make
+  pub record WindowsMade (before behind : JobLevels) (sets : List ℕ) : Type 0 where
+    pub no-circle : NoCircle before
+    pub levels-are : ByTakers behind
+    pub filled : Filled n g t (before .level) (behind .level) sets
+
+  -- and k is their width
+  pub record WidthFound (before behind : JobLevels) (sets : List ℕ) (k : ℕ) : Type 0 where
+    pub windows : WindowsMade before behind sets
+    pub width-is : k ≡ widthIn (releasedIn sets) (followedIn sets) L
+
+  -- jobs and limit are at most 64, and the needs are between the jobs
+  few : m ≤ 64
+  few = jobs-few bs n L o g t j
+
+  short : f .limit ≤ 64
+  short = limit-few bs n L o g t j
+
+  needs-in : NeedsIn m needs
+  needs-in = file-needs bs n L o g t j
+
+  in-jobs : NeedsIn n needs
+  in-jobs = subst (λ (k : ℕ). NeedsIn k needs) (sym (j .held .jobs-is)) needs-in
+
+  -- levels of every list of needs that the reader's sets hold are levels of the file's
+  pub givers-levels : (l : JobLevels) → ((ns : List Need) → NeedsIn n ns → GiversAre g ns → l ≡ levelsOf n ns) → ByGivers l
+  givers-levels l h = h needs in-jobs (j .held .givers-are)
+
+  pub takers-levels : (l : JobLevels) → ((ns : List Need) → NeedsIn n ns → GiversAre t ns → l ≡ levelsOf n ns) → ByTakers l
+  takers-levels l h = h (map swap needs) (swap-in n needs in-jobs) (takers-reversed t needs (j .held .takers-are))
+
   -- a slot takes a job at least
-  pub cap-pos : (k : ℕ) → 0 < capOf k (mostBoards (j .file))
+  pub cap-pos : (k : ℕ) → 0 < capOf k (mostBoards f)
   unfolding capOf
-  cap-pos k = by-choice (λ c. 0 < c) (leb k (mostBoards (j .file))) (λ t. omega arith) (λ t. j .keeps .boards-in .0)
+  cap-pos k = by-choice (λ c. 0 < c) (leb k (mostBoards f)) (λ t. omega arith) (λ t. j .keeps .boards-in .0)
 
-  -- the levels by the givers, and by the takers
-  module _ (before : JobLevels) (is : before ≡ levelsOf n (j .file .needs)) where
-    circle-test : before .ok ≡ circleFree (size (j .file)) (j .file .needs)
-    circle-test = ap (λ (x : JobLevels). x .ok) is ∙ levels-ok n (j .file .needs) ∙ ap (λ (k : ℕ). circleFree k (j .file .needs)) (j .held .jobs-is)
+  -- the file is readable: the planner goes on to 11
+  goes-on : after (readFile bs) planTable ≡ planTable f
+  unfolding after
+  goes-on = ap (λ (x : Answer JobFile). after x planTable) (j .read)
 
-    pub refused-11 : (table : List ℕ) → before .ok ≡ false → Answers bs (made.Refused 11) table table
-    unfolding after planTable
-    refused-11 table e = answers-refused bs 11 table (ap (λ (x : Answer JobFile). after x planTable) (j .read) ∙ ask-no (circleFree (size (j .file)) (j .file .needs)) 11 _ (λ c. go (sym circle-test ∙ e) c))
+  circle-test : {before : JobLevels} → ByGivers before → before .ok ≡ circleFree m needs
+  circle-test is = ap (λ (x : JobLevels). x .ok) is ∙ levels-ok n needs ∙ ap (λ (k : ℕ). circleFree k needs) (j .held .jobs-is)
+
+  -- 11 says no
+  pub refused-11 : {before : JobLevels} → ByGivers before → (table : List ℕ) → before .ok ≡ false → Answers bs (made.Refused 11) table table
+  unfolding planTable
+  refused-11 is table e = answers-refused bs 11 table (goes-on ∙ ask-no (circleFree m needs) 11 _ (no (sym (circle-test is) ∙ e)))
+    where
+      no : circleFree m needs ≡ false → T (circleFree m needs) → ⊥
+      no z c = rw z at c
+
+  module _ {before behind : JobLevels} {sets : List ℕ} {k : ℕ} (w : WidthFound before behind sets k) where
+    -- there is no circle
+    free : T (circleFree m needs)
+    free = T-true _ .1 (sym (circle-test (w .windows .no-circle .levels-are)) ∙ w .windows .no-circle .free)
+
+    -- the windows are the file's
+    windows-are : windowsOf (before .level) (behind .level) n ≡ fileWindows m needs
+    windows-are =
+        ap₂ (λ (x y : JobLevels). windowsOf (x .level) (y .level) n) (w .windows .no-circle .levels-are) (w .windows .levels-are)
+        ∙ ap (λ (i : ℕ). fileWindows i needs) (j .held .jobs-is)
+
+    released-is : releasedIn sets ≡ fileWindows m needs .released
+    unfolding windowsOf
+    released-is = w .windows .filled .released-made ∙ ap (λ (x : JobWindows). x .released) windows-are
+
+    followed-is : followedIn sets ≡ fileWindows m needs .followed
+    unfolding windowsOf
+    followed-is = w .windows .filled .followed-made ∙ ap (λ (x : JobWindows). x .followed) windows-are
+
+    -- and so is the width
+    width-same : k ≡ width m needs (f .limit)
+    width-same =
+        w .width-is ∙ ap₂ (λ (x y : List ℕ). widthIn x y L) released-is followed-is
+        ∙ ap (widthIn (fileWindows m needs .released) (fileWindows m needs .followed)) (j .held .limit-is)
+        ∙ file-width m few needs needs-in (T-true _ .0 free) (f .limit) short
+
+    -- 12 says no
+    pub refused-12 : (table : List ℕ) → 8 < k → Answers bs (made.Refused 12) table table
+    unfolding planTable
+    refused-12 table h = answers-refused bs 12 table (goes-on ∙ ask-yes (circleFree m needs) 11 _ free ∙ ask-no (leb (width m needs (f .limit)) 8) 12 _ wide)
       where
-        go : circleFree (size (j .file)) (j .file .needs) ≡ false → T (circleFree (size (j .file)) (j .file .needs)) → ⊥
-        go z c = rw z at c
+        wide : T (leb (width m needs (f .limit)) 8) → ⊥
+        wide c = omega (arith, T-leb (width m needs (f .limit)) 8 .0 c, width-same)
 
-    module _ (yes : before .ok ≡ true) where
-      free : T (circleFree (size (j .file)) (j .file .needs))
-      free = T-true _ .1 (sym circle-test ∙ yes)
+    -- the best of the start lists with at most c jobs in a slot
+    abbrev bestWith : ℕ → Option (List ℕ)
+    bestWith c = best m (runsb m needs c) (f .limit)
 
-      module _ (behind : JobLevels) (behind-is : behind ≡ levelsOf n (map swap (j .file .needs))) (sets : List ℕ) (filled : Filled n g t (before .level) (behind .level) sets) where
-        w : JobWindows
-        w = windowsOf (before .level) (behind .level) n
+    -- the cap asks what the boards do
+    cap-asks : k ≤ 8 → bestWith (capOf k (mostBoards f)) ≡ bestWith (mostBoards f)
+    unfolding capOf
+    cap-asks h = by-choice (λ c. bestWith c ≡ bestWith (mostBoards f)) (leb k (mostBoards f)) enough (λ t. refl)
+      where
+        enough : T (leb k (mostBoards f)) → bestWith noCap ≡ bestWith (mostBoards f)
+        enough t =
+            wide-enough f (j .keeps) noCap (omega (arith, width-same))
+            ∙ sym (wide-enough f (j .keeps) (mostBoards f) (omega (arith, width-same, T-leb k (mostBoards f) .0 t)))
 
-        file-windows : w ≡ fileWindows (size (j .file)) (j .file .needs)
-        unfolding w
-        file-windows = ap₂ (λ (x y : JobLevels). windowsOf (x .level) (y .level) n) is behind-is ∙ ap (λ (k : ℕ). fileWindows k (j .file .needs)) (j .held .jobs-is)
+    -- no circle and not too wide: what the search is given
+    pub windows-read : k ≤ 8 → (cap least : ℕ) → cap ≡ capOf k (mostBoards f) → least ≡ firstLength (leastOf (before .level) (behind .level) n) n cap
+        → WindowsRead bs n L cap o sets least
+    unfolding windowsOf firstLength
+    windows-read h cap least c e = record {
+      jobs = record { file = f; read = j .read; keeps = j .keeps; held = rw (w .windows .filled .givers-kept, w .windows .filled .takers-kept) (j .held) };
+      free = free;
+      narrow = omega (arith, width-same);
+      released-is = released-is;
+      followed-is = followed-is;
+      cap-is = rw c (cap-asks h);
+      least-pos = omega (arith, e, low-is, least-pos m needs (f .limit) few short needs-in (T-true _ .0 free) (j .keeps .jobs-in .0));
+      least-low = first-low;
+    }
+      where
+        low-is : leastOf (before .level) (behind .level) n ≡ fileWindows m needs .least
+        low-is = ap (λ (x : JobWindows). x .least) windows-are
 
-        released-is : releasedIn sets ≡ fileWindows (size (j .file)) (j .file .needs) .released
-        unfolding w windowsOf
-        released-is = filled .released-made ∙ ap (λ (x : JobWindows). x .released) file-windows
-
-        followed-is : followedIn sets ≡ fileWindows (size (j .file)) (j .file .needs) .followed
-        unfolding w windowsOf
-        followed-is = filled .followed-made ∙ ap (λ (x : JobWindows). x .followed) file-windows
-
-        module _ (k : ℕ) (k-is : k ≡ widthIn (releasedIn sets) (followedIn sets) L) where
-          width-is : k ≡ width (size (j .file)) (j .file .needs) (j .file .limit)
-          width-is =
-              k-is ∙ ap₂ (λ (x y : List ℕ). widthIn x y L) released-is followed-is
-              ∙ ap (widthIn (fileWindows (size (j .file)) (j .file .needs) .released) (fileWindows (size (j .file)) (j .file .needs) .followed)) (j .held .limit-is)
-              ∙ file-width (size (j .file)) (jobs-few bs n L o g t j) (j .file .needs) (file-needs bs n L o g t j) (T-true _ .0 free) (j .file .limit) (limit-few bs n L o g t j)
-
-          pub refused-12 : (table : List ℕ) → 8 < k → Answers bs (made.Refused 12) table table
-          unfolding after planTable
-          refused-12 table h =
-              answers-refused bs 12 table (ap (λ (x : Answer JobFile). after x planTable) (j .read) ∙ ask-yes (circleFree (size (j .file)) (j .file .needs)) 11 _ free
-              ∙ ask-no (leb (width (size (j .file)) (j .file .needs) (j .file .limit)) 8) 12 _ (λ c. omega (arith, T-leb (width (size (j .file)) (j .file .needs) (j .file .limit)) 8 .0 c, width-is)))
-
-          -- the cap asks what the boards do
-          cap-asks : k ≤ 8 → best (size (j .file)) (runsb (size (j .file)) (j .file .needs) (capOf k (mostBoards (j .file)))) (j .file .limit)
-              ≡ best (size (j .file)) (runsb (size (j .file)) (j .file .needs) (mostBoards (j .file))) (j .file .limit)
-          unfolding capOf
-          cap-asks h = by-choice
-              (λ c. best (size (j .file)) (runsb (size (j .file)) (j .file .needs) c) (j .file .limit) ≡ best (size (j .file)) (runsb (size (j .file)) (j .file .needs) (mostBoards (j .file))) (j .file .limit))
-              (leb k (mostBoards (j .file)))
-              (λ t. wide-enough (j .file) (j .keeps) noCap (omega (arith, width-is)) ∙ sym (wide-enough (j .file) (j .keeps) (mostBoards (j .file)) (omega (arith, width-is, T-leb k (mostBoards (j .file)) .0 t))))
-              (λ t. refl)
-
-          -- no circle and not too wide: what the search is given
-          pub windows-read : k ≤ 8 → (cap least : ℕ) → cap ≡ capOf k (mostBoards (j .file)) → least ≡ firstLength (leastOf (before .level) (behind .level) n) n cap → WindowsRead bs n L cap o sets least
-          unfolding w windowsOf firstLength
-          windows-read h cap least c e = record {
-            jobs = record { file = j .file; read = j .read; keeps = j .keeps; held = rw (filled .givers-kept, filled .takers-kept) (j .held) };
-            free = free;
-            narrow = omega (arith, width-is);
-            released-is = released-is;
-            followed-is = followed-is;
-            cap-is = rw c (cap-asks h);
-            least-pos = omega (arith, e, low-is, low-pos);
-            least-low = first-low;
-          }
-            where
-              low : ℕ
-              low = fileWindows (size (j .file)) (j .file .needs) .least
-
-              low-is : leastOf (before .level) (behind .level) n ≡ low
-              low-is = ap (λ (x : JobWindows). x .least) file-windows
-
-              low-pos : 0 < low
-              low-pos = least-pos (size (j .file)) (j .file .needs) (j .file .limit) (jobs-few bs n L o g t j) (limit-few bs n L o g t j) (file-needs bs n L o g t j) (T-true _ .0 free) (j .keeps .jobs-in .0)
-
-              first-low : (u : List ℕ) → Runs (size (j .file)) (j .file .needs) cap u → length u ≡ size (j .file) → least ≤ slots u
-              first-low u r len = omega (
-                arith,
-                e,
-                low-is,
-                least-slots (size (j .file)) (j .file .needs) (j .file .limit) (jobs-few bs n L o g t j) (limit-few bs n L o g t j) (file-needs bs n L o g t j) (T-true _ .0 free) cap u r len,
-                rounded-up n cap (slots u) (rw c (cap-pos k)) (rw (j .held .jobs-is) (capped-slots (size (j .file)) cap u len (r .capped))),
-              )
-
-  in-jobs : NeedsIn n (j .file .needs)
-  in-jobs = rw (j .held .jobs-is) (file-needs bs n L o g t j)
-
-  -- what the levels are of this file: by the givers, and by the takers, which are the givers of the reversed needs
-  pub givers-levels : (r : JobLevels) → ((needs : List Need) → NeedsIn n needs → GiversAre g needs → r ≡ levelsOf n needs) → r ≡ levelsOf n (j .file .needs)
-  givers-levels r h = h (j .file .needs) in-jobs (j .held .givers-are)
-
-  pub takers-levels : (r : JobLevels) → ((needs : List Need) → NeedsIn n needs → GiversAre t needs → r ≡ levelsOf n needs) → r ≡ levelsOf n (map swap (j .file .needs))
-  takers-levels r h = h (map swap (j .file .needs)) (swap-in n (j .file .needs) in-jobs) (takers-reversed t (j .file .needs) (j .held .takers-are))
+        first-low : (u : List ℕ) → Runs m needs cap u → length u ≡ m → least ≤ slots u
+        first-low u r len = omega (
+          arith,
+          e,
+          low-is,
+          least-slots m needs (f .limit) few short needs-in (T-true _ .0 free) cap u r len,
+          rounded-up n cap (slots u) (rw c (cap-pos k)) (rw (j .held .jobs-is) (capped-slots m cap u len (r .capped))),
+        )
 
 -- ---- question 1, and the working buffer afterwards
 
 module _ (file work table : List ℕ) where
   -- a buffer is too small: nothing is changed
-  pub short-work : length work < 65536 → record { number = 1; length = 0; table = table; work = work } ≡ plan file work table
+  pub short-work : length work < 65536 → record { number = 1; size = 0; table = table; work = work } ≡ plan file work table
   unfolding plan
   short-work h = sym (choose-no _ _ _ (λ c. let d : (65536 ≤ length work) × (1222 ≤ length table) = simp tests at c in omega (arith, d)))
 
-  pub short-table : length table < 1222 → record { number = 1; length = 0; table = table; work = work } ≡ plan file work table
+  pub short-table : length table < 1222 → record { number = 1; size = 0; table = table; work = work } ≡ plan file work table
   unfolding plan
   short-table h = sym (choose-no _ _ _ (λ c. let d : (65536 ≤ length work) × (1222 ≤ length table) = simp tests at c in omega (arith, d)))
 

@@ -34,21 +34,28 @@ part-before (suc m) k (suc p) [] rest h b = absurd (omega arith)
 part-before (suc m) k (suc p) (x ∷ l) rest h b = part-before m k p l rest (omega arith) (omega arith)
 
 -- the list is as long as before
-pub length-with : (m k : ℕ) (part l : List ℕ) → m + k ≤ length l → length part ≡ k → length (withPart m k part l) ≡ length l
+length-with : (m k : ℕ) (part l : List ℕ) → m + k ≤ length l → length part ≡ k → length (withPart m k part l) ≡ length l
 length-with m k part l h e = simp (length-append, length-take, length-drop) (omega arith)
 
 -- the windows have 66 sets
-pub length-table : (f : ℕ → Set) → length (table f) ≡ 66
+length-table : (f : ℕ → Set) → length (table f) ≡ 66
 unfolding table
 length-table f = length-tabulate (λ k. f k .bits) 66 0
 
+-- so it is with windows written behind the first m
+pub length-written : (m : ℕ) (f : ℕ → Set) (part l : List ℕ) → part ≡ table f → m + 66 ≤ length l → length (withPart m 66 part l) ≡ length l
+length-written m f part l e h = length-with m 66 part l h (ap length e ∙ length-table f)
+
 -- first those by releases, then those by tails
-pub filled : (n : ℕ) (sets released followed release tail : List ℕ) → length sets ≡ 260 → released ≡ table (lowerJobs release n) → followed ≡ table (higherJobs tail n)
+pub filled : (n : ℕ) (sets released followed release tail : List ℕ) → length sets ≡ 260
+    → released ≡ table (lowerJobs release n) → followed ≡ table (higherJobs tail n)
     → Filled n (giversIn sets) (takersIn sets) release tail (withPart 194 66 followed (withPart 128 66 released sets))
 filled n sets released followed release tail e r f = record {
   givers-kept = part-before 0 64 194 once _ (omega arith) (omega (arith, long)) ∙ part-before 0 64 128 sets _ (omega arith) (omega (arith, e));
   takers-kept = part-before 64 64 194 once _ (omega arith) (omega (arith, long)) ∙ part-before 64 64 128 sets _ (omega arith) (omega (arith, e));
-  released-made = part-before 128 66 194 once _ (omega arith) (omega (arith, long)) ∙ part-put 128 66 released sets (omega (arith, e)) (ap length r ∙ length-table (lowerJobs release n)) ∙ r;
+  released-made =
+      part-before 128 66 194 once _ (omega arith) (omega (arith, long))
+      ∙ part-put 128 66 released sets (omega (arith, e)) (ap length r ∙ length-table (lowerJobs release n)) ∙ r;
   followed-made = part-put 194 66 followed once (omega (arith, long)) (ap length f ∙ length-table (higherJobs tail n)) ∙ f;
 }
   where
@@ -56,4 +63,4 @@ filled n sets released followed release tail e r f = record {
     once = withPart 128 66 released sets
 
     long : length once ≡ 260
-    long = length-with 128 66 released sets (omega (arith, e)) (ap length r ∙ length-table (lowerJobs release n)) ∙ e
+    long = length-written 128 (lowerJobs release n) released sets r (omega (arith, e)) ∙ e

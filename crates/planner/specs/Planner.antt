@@ -23,8 +23,8 @@ use Rattle.planner.specs.declared.Planned.the-variants.{Table, Refused}
 
 -- number, length and both buffers: what document 01 says of an answer
 abbrev pub outcomeOf : Planned → List ℕ → List ℕ → Outcome
-outcomeOf (Table n) work table = record { number = 0; length = n; table = table; work = work }
-outcomeOf (Refused q) work table = record { number = q; length = 0; table = table; work = work }
+outcomeOf (Table n) work table = record { number = 0; size = n; table = table; work = work }
+outcomeOf (Refused q) work table = record { number = q; size = 0; table = table; work = work }
 
 -- the answer for a file with full buffers: the table buffer before and after; the working buffer is cleared afterwards
 unfoldable pub Answers : List ℕ → Planned → List ℕ → List ℕ → Type 0

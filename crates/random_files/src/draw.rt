@@ -1,4 +1,4 @@
-// Random numbers, sizes, needs and job files of at most five jobs.
+// Random numbers, sizes, needs and job files of at most five jobs, and of extra jobs without needs behind them.
 //
 // Jobs count from 0. Needs are a table of 25: the need from a giver to a taker stands at five times the giver plus the taker, 1 where it is there.
 ghost use Prim.Native.Nat.{_≤_};
@@ -83,11 +83,17 @@ fn put_if(file: &mut [u8; 1222], sockets: u8, needs: &[u8; 25], place: usize, at
     at
 }
 
-// The job file of these sizes with these needs, in the order of the table from a place on and then around. Gives its length.
-pub(crate) fn put_file(file: &mut [u8; 1222], sizes: Sizes, needs: &[u8; 25], first: usize) -> usize
-    requires { ⌜ (sizes .jobs ≤ 5) × (first ≤ 25) ⌝ }
+// The job file of these sizes with so many extra jobs, and with these needs in the order of the table from a place on and then around. Gives its length.
+pub(crate) fn put_file(
+    file: &mut [u8; 1222],
+    sizes: Sizes,
+    extras: u8,
+    needs: &[u8; 25],
+    first: usize,
+) -> usize
+    requires { ⌜ (sizes .jobs ≤ 5) × (extras ≤ 9) × (first ≤ 25) ⌝ }
 {
-    let mut at = drafts::put_jobs(file, sizes.limit, sizes.jobs);
+    let mut at = drafts::put_jobs(file, sizes.limit, sizes.jobs + extras);
     let mut k = 0;
     while k < 25 {
         at = put_if(file, sizes.sockets, needs, (first + k) % 25, at);

@@ -5,8 +5,10 @@
 use crate::draw::Sizes;
 ghost use Prim.Native.Nat.{_≤_};
 
-// The refusals of questions 11 and 13, as the form for C gives them.
+// The refusals of questions 11, 12 and 13, as the form for C gives them.
 pub const CIRCLE: u32 = 65547;
+
+pub const WIDE: u32 = 65548;
 
 pub const NONE: u32 = 65549;
 
@@ -38,7 +40,7 @@ pub(crate) fn of(values: &[u8; 5], job: usize) -> u8 {
 }
 
 // Is there a need?
-fn gives(needs: &[u8; 25], giver: usize, taker: usize) -> bool {
+pub(crate) fn gives(needs: &[u8; 25], giver: usize, taker: usize) -> bool {
     if giver < 5 {
         if taker < 5 {
             return needs[5 * giver + taker] == 1;
@@ -47,7 +49,8 @@ fn gives(needs: &[u8; 25], giver: usize, taker: usize) -> bool {
     false
 }
 
-fn larger(a: u8, b: u8) -> u8 {
+// The larger of two values.
+pub(crate) fn larger(a: u8, b: u8) -> u8 {
     if a < b { b } else { a }
 }
 

@@ -7,18 +7,22 @@ use crate::draw::put_file;
 use crate::draw::sockets_of;
 use crate::lists::CIRCLE;
 use crate::lists::NONE;
+use crate::lists::WIDE;
 use crate::lists::best;
 use crate::lists::largest;
 use crate::lists::list;
 use crate::lists::of;
 use crate::lists::slots;
 use crate::placing::place;
+use crate::width::width;
 use libc::STDOUT_FILENO;
+ghost use Prim.Native.Nat.{_≤_};
 
 // How many files.
 const FILES: u64 = 5000;
 
-// What is said of a file, besides its refusal or the slots of its table, where that is right: the answer differs, or the check refuses the table.
+// What is said of a file, besides its refusal or the slots of its table, where that is right: the answer or a buffer differs, or the check refuses the
+// table.
 const DIFFERS: u32 = 0;
 
 const UNCHECKED: u32 = 100;
@@ -48,6 +52,15 @@ fn same_rows(table: &[u8; 1222], starts: &[u8; 5], boards: &[u8; 5], jobs: usize
     true
 }
 
+// What both buffers are full of before a call: a byte that differs from file to file, and is never 0.
+fn noise(file: &[u8]) -> u8 {
+    let length = file.len();
+    if length < 255 {
+        return 255 - (length as u8);
+    }
+    170
+}
+
 // Has a table these starts, the boards that they lead to, and the head that goes with them?
 fn same_table(table: &[u8; 1222], needs: &[u8; 25], starts: &[u8; 5], jobs: usize) -> bool {
     let mut boards = [0; 5];
@@ -58,9 +71,33 @@ fn same_table(table: &[u8; 1222], needs: &[u8; 25], starts: &[u8; 5], jobs: usiz
     same_rows(table, starts, &boards, jobs)
 }
 
-// The planner's answer.
-fn plan(file: &[u8], work: &mut [u8; 65536], table: &mut [u8; 1222]) -> u32 {
-    gate::gate_plan(file, work, table)
+// Have the bytes from one place to before another this value?
+fn filled(bytes: &[u8], from: usize, to: usize, value: u8) -> bool {
+    let mut at = from;
+    while at < to && at < bytes.len() {
+        if bytes[at] != value {
+            return false;
+        }
+        at += 1;
+    }
+    true
+}
+
+// How many bytes of the table buffer the answer may change.
+fn written(answer: u32) -> usize {
+    if answer < CIRCLE { answer as usize } else { 0 }
+}
+
+// The planner's answer. The working buffer has eight bytes more than are used; DIFFERS where a buffer is not as the answer leaves it.
+fn plan(file: &[u8], table: &mut [u8; 1222]) -> u32 {
+    let before = noise(file);
+    let mut work = [before; 65544];
+    let answer = gate::gate_plan(file, &mut work, table);
+    let zeroed = filled(&work, 0, 65536, 0) && filled(&work, 65536, 65544, before);
+    if zeroed && filled(table, written(answer), 1222, before) {
+        return answer;
+    }
+    DIFFERS
 }
 
 // Does the check pass a table of so many bytes?
@@ -88,22 +125,57 @@ fn say_table(
 }
 
 // What is said of a file for which the search gives this number.
-fn say(file: &[u8], needs: &[u8; 25], jobs: usize, number: u32, work: &mut [u8; 65536]) -> u32 {
-    let mut table = [0; 1222];
-    let answer = plan(file, work, &mut table);
-    if number < CIRCLE {
+fn say(file: &[u8], needs: &[u8; 25], jobs: usize, number: u32) -> u32 {
+    let mut table = [noise(file); 1222];
+    let answer = plan(file, &mut table);
+    if answer != DIFFERS && number < CIRCLE {
         return say_table(file, &table, answer as usize, needs, jobs, number);
     }
     if answer == number { number } else { DIFFERS }
 }
 
-// The place of a count: tables, refused 11, refused 13; the sum of slots stands at 3; differ, check refused; changed by tag 9.
+// Has the file a table that passes, or is it refused by 13?
+fn narrow(file: &[u8]) -> bool {
+    let mut table = [noise(file); 1222];
+    let answer = plan(file, &mut table);
+    answer == NONE || answer < CIRCLE && passes(file, &table, answer as usize)
+}
+
+// Is the file refused by 12?
+fn wide(file: &[u8]) -> bool {
+    let mut table = [noise(file); 1222];
+    plan(file, &mut table) == WIDE
+}
+
+// How many jobs without needs make the width of a file eight.
+fn room(width: u8) -> u8
+    ensures { λ r. ⌜ r ≤ 8 ⌝ }
+{
+    if width < 8 { 8 - width } else { 0 }
+}
+
+// What is said of a file with so many extra jobs, that make its width eight, and with one more.
+fn say_wide(needs: &[u8; 25], sizes: Sizes, extras: u8, first: usize) -> u32
+    requires { ⌜ (sizes .jobs ≤ 5) × (extras ≤ 8) × (first ≤ 25) ⌝ }
+{
+    let mut eight = [0; 1222];
+    let mut nine = [0; 1222];
+    let size = put_file(&mut eight, sizes, extras, needs, first);
+    let more = put_file(&mut nine, sizes, extras + 1, needs, first);
+    if narrow(drafts::front(&eight, size)) && wide(drafts::front(&nine, more)) {
+        return WIDE;
+    }
+    DIFFERS
+}
+
+// The place of a count: tables, refused 11, 13 and 12; the sum of slots stands at 4; differ, check refused; changed by tag 9.
 fn place_of(said: u32) -> usize {
     match said {
         CIRCLE => 1,
         NONE => 2,
-        DIFFERS => 4,
-        UNCHECKED => 5,
+        WIDE => 3,
+        DIFFERS => 5,
+        UNCHECKED => 6,
         _ => 0,
     }
 }
@@ -113,18 +185,18 @@ fn sum(n: u64, more: u32) -> u64 {
 }
 
 // Adds to a count.
-fn add(counts: &mut [u64; 7], place: usize, more: u32) {
-    if place < 7 {
+fn add(counts: &mut [u64; 8], place: usize, more: u32) {
+    if place < 8 {
         counts[place] = sum(counts[place], more);
     }
 }
 
 // Counts a file of which this is said.
-fn count(counts: &mut [u64; 7], said: u32) {
+fn count(counts: &mut [u64; 8], said: u32) {
     let place = place_of(said);
     add(counts, place, 1);
     if place == 0 {
-        add(counts, 3, said);
+        add(counts, 4, said);
     }
 }
 
@@ -138,8 +210,8 @@ fn changed(needs: &[u8; 25], sizes: Sizes, number: u32) -> bool {
     sizes.sockets != 0 && best(needs, without) != number
 }
 
-// One file, with limit 1 to 6. Gives the last number drawn.
-fn try_file(seed: u64, work: &mut [u8; 65536], counts: &mut [u64; 7]) -> u64 {
+// One file, with limit 1 to 6; where it has no circle, with extra jobs too. Gives the last number drawn.
+fn try_file(seed: u64, counts: &mut [u64; 8]) -> u64 {
     let number = seed / 65536;
     let jobs = jobs_of(number);
     let mut needs = [0; 25];
@@ -149,31 +221,32 @@ fn try_file(seed: u64, work: &mut [u8; 65536], counts: &mut [u64; 7]) -> u64 {
         limit: 1 + (number / 8 % 6) as u8,
         sockets: sockets_of(last / 65536),
     };
+    let first = (number / 64 % 25) as usize;
     let mut file = [0; 1222];
-    let size = put_file(&mut file, sizes, &needs, (number / 64 % 25) as usize);
+    let size = put_file(&mut file, sizes, 0, &needs, first);
     let right = best(&needs, sizes);
     count(
         counts,
-        say(
-            drafts::front(&file, size),
-            &needs,
-            jobs as usize,
-            right,
-            work,
-        ),
+        say(drafts::front(&file, size), &needs, jobs as usize, right),
     );
+    if right != CIRCLE {
+        count(
+            counts,
+            say_wide(&needs, sizes, room(width(&needs, sizes)), first),
+        );
+    }
     if changed(&needs, sizes, right) {
-        add(counts, 6, 1);
+        add(counts, 7, 1);
     }
     next(last)
 }
 
 // All files.
-fn try_files(work: &mut [u8; 65536], counts: &mut [u64; 7]) {
+fn try_files(counts: &mut [u64; 8]) {
     let mut seed = 1;
     let mut i = 0;
     while i < FILES {
-        seed = try_file(seed, work, counts);
+        seed = try_file(seed, counts);
         i += 1;
     }
 }
@@ -185,26 +258,28 @@ fn show(label: &[u8], number: u64) {
 }
 
 // A line with a count.
-fn show_count(label: &[u8], counts: &[u64; 7], place: usize) {
-    if place < 7 {
+fn show_count(label: &[u8], counts: &[u64; 8], place: usize) {
+    if place < 8 {
         show(label, counts[place]);
     }
 }
 
-fn show_counts(counts: &[u64; 7]) {
+// What was counted, a line each.
+fn show_counts(counts: &[u64; 8]) {
     show_count(b"tables ", counts, 0);
     show_count(b"refused 11 ", counts, 1);
     show_count(b"refused 13 ", counts, 2);
-    show_count(b"sum of slots ", counts, 3);
-    show_count(b"differ ", counts, 4);
-    show_count(b"check refused ", counts, 5);
-    show_count(b"changed by tag 9 ", counts, 6);
+    show_count(b"refused 12 with extra jobs ", counts, 3);
+    show_count(b"sum of slots ", counts, 4);
+    show_count(b"differ ", counts, 5);
+    show_count(b"check refused ", counts, 6);
+    show_count(b"changed by tag 9 ", counts, 7);
 }
 
+// All files, and what was counted.
 pub(crate) fn all() {
-    let mut work = io::large_buffer();
-    let mut counts = [0; 7];
-    try_files(&mut work, &mut counts);
+    let mut counts = [0; 8];
+    try_files(&mut counts);
     show(b"files ", FILES);
     show_counts(&counts);
 }

@@ -10,7 +10,8 @@ use Rattle.rules.specs.Fields.{refused, got, ask, after}
 use Rattle.rules.specs.Table.{Row, headOk, decode}
 use Rattle.laws.specs.Lists.{length-tabulate, map-tabulate}
 use Rattle.laws.specs.Fields.{ask-yes}
-use Rattle.rows.specs.Rows.{rowNumber, tableOf, Few, Decodes}
+use Rattle.laws.specs.Decoded.{rowNumber, decodedTable}
+use Rattle.rows.specs.Rows.{Few, Decodes}
 use Rattle.rows.specs.RowByRow.{ReadTo, end-rows}
 use Rattle.rows.specs.declared.Rows as code
 
@@ -24,12 +25,12 @@ no-head bs e few h = rw e refl
 
 -- the reader has come to the end
 module _ (bs : List ℕ) (head : T (headOk bs)) (o s b : List ℕ) (n a : ℕ) (r : ReadTo bs o s b n a) (end : length bs ≤ a) where
-  decoded : (few : ℕ → Bool) → decode few bs ≡ ask (few n) 14 (got (tableOf bs n))
-  unfolding decode tableOf after
+  decoded : (few : ℕ → Bool) → decode few bs ≡ ask (few n) 14 (got (decodedTable bs n))
+  unfolding decode decodedTable after
   decoded few = ask-yes (headOk bs) 14 _ head ∙ rw (end-rows bs o s b n a r end, length-tabulate (rowNumber bs) n 0) refl
 
   pub table-read : (sl bo : ℕ) → sl ≡ at bs 4 → bo ≡ at bs 5 → Decodes bs (record { ok = true; slots = sl; boards = bo; count = n; offset = o; start = s; board = b })
-  unfolding tableOf
+  unfolding decodedTable
   table-read sl bo p q = record {
     held = λ _. record {
       decoded = decoded;

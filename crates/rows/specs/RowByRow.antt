@@ -18,9 +18,11 @@ use Rattle.laws.specs.Tests.{T-false, by-choice}
 use Rattle.laws.specs.Lists.{length-tabulate, tabulate-last}
 use Rattle.laws.specs.Fields.{ask-got, after-got, ask-yes, whole-is, after-head, length-value, overFields-step, overFields-end, overFields-keeps}
 use Rattle.laws.specs.Refusals.{Refusal, decode-number}
+use Rattle.laws.specs.Table.{allRows}
+use Rattle.laws.specs.Decoded.{isRow, rowNumber}
 use Rattle.rows.specs.declared.RowAnswer.{RowAnswer}
 use Rattle.rows.specs.declared.RowAnswer.the-variants as answer
-use Rattle.rows.specs.Rows.{isRow, rowAnswer, rowNumber, Few}
+use Rattle.rows.specs.Rows.{rowAnswer, Few}
 use Rattle.rows.specs.RowWays.{IsRow, row-is}
 
 -- byte i of a value
@@ -29,9 +31,6 @@ unfolding value part
 value-byte bs a i h t = getD-take (fieldEnd bs a - (a + 3)) (drop (a + 3) bs) i 0 (omega (arith, length-value bs a t)) ∙ getD-drop (a + 3) bs i 0
 
 -- ---- all rows
-
-abbrev pub allRows : List ℕ → Answer (List Row)
-allRows bs = overFields (readRow bs) (length bs) bs 6 []
 
 module _ (bs : List ℕ) (a : ℕ) where
   -- what the answer of the row reader says

@@ -16,8 +16,9 @@ use Rattle.rules.specs.Table.{headOk}
 use Rattle.laws.specs.Lists.{take-rest}
 use Rattle.laws.specs.Tests.{T-and, T-leb, T-eqb, T-true, choose-yes, choose-no}
 use Rattle.laws.specs.Fields.{whole-is, after-head, length-value}
+use Rattle.laws.specs.Decoded.{isRow}
 use Rattle.rows.specs.declared.RowAnswer.the-variants.{Row, Refused}
-use Rattle.rows.specs.Rows.{isRow, rowAnswer}
+use Rattle.rows.specs.Rows.{rowAnswer}
 
 -- ---- the head
 

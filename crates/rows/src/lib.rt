@@ -1,5 +1,6 @@
 // The rows of a table: question 14.
 use fields::is_whole;
+use fields::name_ok;
 use fields::value_at;
 use fields::wide;
 ghost use mathlib.Core.Path.{_≡_};
@@ -62,7 +63,7 @@ fn row_at(table: &[u8], offset: usize) -> RowAnswer
     if 16 < size {
         return RowAnswer::Refused;
     }
-    if !jobfile::name_ok(&v[2..]) {
+    if !name_ok(&v[2..]) {
         return RowAnswer::Refused;
     }
     RowAnswer::Row {

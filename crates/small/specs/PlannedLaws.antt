@@ -50,4 +50,4 @@ module _ (file work table : List ℕ) (p : Planned) (work′ table′ : List ℕ
       go (refused k) w = refl
       go (got T) w =
           let none = ap (λ (o : Outcome). o .number) (plan-full file work table full room ∙ ap (λ (a : Answer Table). written a work table) w) in
-          absurd (omega (arith, ap (λ (o : Outcome). o .length) h, table-has-bytes file work table none))
+          absurd (omega (arith, ap (λ (o : Outcome). o .size) h, table-has-bytes file work table none))

@@ -11,27 +11,28 @@ use Rattle.rules.specs.Basics.{choose}
 use Rattle.rules.specs.Fields.{Answer, refused, ask}
 use Rattle.rules.specs.Table.{Table, starts, boardsOf, sized, apartb}
 use Rattle.laws.specs.Lists.{length-tabulate}
-use Rattle.rows.specs.Rows.{rowNumber, tableOf, RowsRead}
+use Rattle.laws.specs.Decoded.{rowNumber, decodedTable}
+use Rattle.rows.specs.Rows.{RowsRead}
 use Rattle.questions.specs.Questions.{sizedIn}
 use Rattle.table.specs.Entries.{cellNumber}
 use Rattle.rows.specs.declared.Rows as code
 
 -- a table of n rows has n of them
-pub rows-length : (bs : List ℕ) (n : ℕ) → length (tableOf bs n .rows) ≡ n
-unfolding tableOf
+pub rows-length : (bs : List ℕ) (n : ℕ) → length (decodedTable bs n .rows) ≡ n
+unfolding decodedTable
 rows-length bs n = length-tabulate (rowNumber bs) n 0
 
 module _ (bs : List ℕ) (r : code.Rows) (held : RowsRead bs r) where
   t : Table
-  t = tableOf bs (r .count)
+  t = decodedTable bs (r .count)
 
   sized-is : (L most : ℕ) → sizedIn L most (r .slots) (r .boards) (take (r .count) (r .start)) (take (r .count) (r .board)) ≡ sized L most t
-  unfolding sized sizedIn t tableOf
+  unfolding sized sizedIn t decodedTable
   sized-is L most = rw (held .slots-is, held .boards-is, held .starts-are, held .boards-are) refl
 
   -- row by row
   count-is : length (take (r .count) (r .start)) ≡ r .count
-  count-is = ap length (held .starts-are) ∙ length-map (tableOf bs (r .count) .rows) (λ w. w .start) ∙ rows-length bs (r .count)
+  count-is = ap length (held .starts-are) ∙ length-map (decodedTable bs (r .count) .rows) (λ w. w .start) ∙ rows-length bs (r .count)
 
   apart-is : apartb (length (take (r .count) (r .start))) (take (r .count) (r .start)) (take (r .count) (r .board)) ≡ apartb (r .count) (starts t) (boardsOf t)
   unfolding t
@@ -46,7 +47,7 @@ module _ (bs : List ℕ) (r : code.Rows) (held : RowsRead bs r) where
     unfolding cellNumber
     number = q-is ∙ rw (sized-is L most, apart-is) refl
 
-    pub cells-yes : q ≡ 0 → ask (sized L most (tableOf bs (r .count))) 16 (ask (apartb (r .count) (starts (tableOf bs (r .count))) (boardsOf (tableOf bs (r .count)))) 17 x) ≡ x
+    pub cells-yes : q ≡ 0 → ask (sized L most (decodedTable bs (r .count))) 16 (ask (apartb (r .count) (starts (decodedTable bs (r .count))) (boardsOf (decodedTable bs (r .count)))) 17 x) ≡ x
     unfolding choose ask t
     cells-yes z = go (sized L most t) (apartb (r .count) (starts t) (boardsOf t)) (sym number ∙ z)
       where
@@ -55,7 +56,7 @@ module _ (bs : List ℕ) (r : code.Rows) (held : RowsRead bs r) where
         go true false e = absurd (omega arith)
         go false c e = absurd (omega arith)
 
-    pub cells-no : (q ≡ 0 → ⊥) → ask (sized L most (tableOf bs (r .count))) 16 (ask (apartb (r .count) (starts (tableOf bs (r .count))) (boardsOf (tableOf bs (r .count)))) 17 x) ≡ refused q
+    pub cells-no : (q ≡ 0 → ⊥) → ask (sized L most (decodedTable bs (r .count))) 16 (ask (apartb (r .count) (starts (decodedTable bs (r .count))) (boardsOf (decodedTable bs (r .count)))) 17 x) ≡ refused q
     unfolding choose ask t
     cells-no n = go (sized L most t) (apartb (r .count) (starts t) (boardsOf t)) number
       where

@@ -1,16 +1,17 @@
--- The ways out of the check, by what it has tested. Assumes nothing.
+-- The ways out of the check, by what it has found out. Assumes nothing.
 use mathlib.Core.Path.{_≡_, refl, sym, ap, ap₂, _∙_}
-use mathlib.Core.Bool.{true, false}
+use mathlib.Core.Bool.{Bool, true, false}
 use mathlib.Core.List.{List}
 use Prim.Native.Nat.{ℕ, _+_, _≤_, _<_}
 use native.Mathlib.Omega.{arith}
 use lib.ListN.{length, take, drop, length-drop, length-map}
+use lib.Seq.{length-take-le}
 use lib.Dec.{T, leb, eqb}
 use Rattle.rules.specs.Basics.{at}
-use Rattle.rules.specs.Fields.{refused, got, ask, after, value}
+use Rattle.rules.specs.Fields.{Answer, refused, got, ask, after, value}
 use Rattle.rules.specs.Needs.{Need, NeedsIn, circleFree}
 use Rattle.rules.specs.JobFile.{JobFile, nthJob, nameOk, mostBoards, jobOf, readFile}
-use Rattle.rules.specs.Table.{nthRow, starts, boardsOf, rowOf, decode, labelled, needsKept, rowStart}
+use Rattle.rules.specs.Table.{Table, nthRow, starts, boardsOf, rowOf, decode, labelled, needsKept, rowStart}
 use Rattle.rules.specs.Answers.{check}
 use Rattle.laws.specs.Tests.{tests, T-and, T-leb}
 use Rattle.laws.specs.Lists.{nth-mem, tabulate-at}
@@ -18,158 +19,306 @@ use Rattle.laws.specs.Counting.{all-same}
 use Rattle.laws.specs.Fields.{ask-yes, ask-no, number-refused}
 use Rattle.laws.specs.JobFile.{Readable, readable}
 use Rattle.laws.specs.Check.{q15, q16, q18}
+use Rattle.laws.specs.Decoded.{rowNumber, decodedTable}
 use Rattle.laws.specs.Refusals.{read-got}
 use Rattle.laws.specs.Numbers.{bytes-all}
 use Rattle.jobset.specs.Arrays.{GiversAre}
 use Rattle.jobfile.specs.Reading.{stateOf, Held, Reads}
 use Rattle.windows.specs.Levels.{levelsOf}
 use Rattle.windows.specs.LevelLaws.{levels-ok}
-use Rattle.rows.specs.Rows.{rowNumber, tableOf, RowsRead, Decodes}
+use Rattle.rows.specs.Rows.{Few, RowsRead, Decodes}
 use Rattle.rows.specs.RowWays.{IsRow, row-is}
 use Rattle.questions.specs.Questions.{labelledBy, Placed, labelledIn, setsKept}
 use Rattle.questions.specs.QuestionLaws.{kept-is}
 use Rattle.table.specs.Cells.{rows-length, cells-yes, cells-no}
 use Rattle.table.specs.Entries.{cellNumber, verdictOf}
 use Rattle.table.specs.declared.Verdict.the-variants as verdict
-use Rattle.rows.specs.declared.Rows as table-rows
+use Rattle.rows.specs.declared.Rows.{Rows}
 use Rattle.jobfile.specs.declared.Counts.{Counts}
 use Rattle.windows.specs.declared.JobLevels.{JobLevels}
 
-module _ (file table : List ℕ) where
-  refused-by : (q : ℕ) → check file table ≡ refused q → verdict.Refused q ≡ verdictOf (check file table)
-  unfolding verdictOf
-  refused-by q e = rw e refl
+-- ---- what it has found out
 
-  module _ (F : Counts) (offsets givers takers : List ℕ) (reads : Reads file F offsets givers takers) where
-    -- ---- questions 2 to 10, and 21
+-- both files, and what the reader of the job file left: its counts, where each job's field begins, its givers and its takers
+pub record Given : Type 0 where
+  pub file : List ℕ
+  pub table : List ℕ
+  pub counts : Counts
+  pub offsets : List ℕ
+  pub givers : List ℕ
+  pub takers : List ℕ
 
-    pub file-refused : (F .number ≡ 0 → ⊥) → verdict.Refused (F .number) ≡ verdictOf (check file table)
+-- how many jobs there are
+abbrev pub jobs : Given → ℕ
+jobs g = g .counts .jobs
+
+-- the reader's answer is that of the rules
+abbrev pub Answered : Given → Type 0
+Answered g = Reads (g .file) (g .counts) (g .offsets) (g .givers) (g .takers)
+
+-- the levels are those of the needs that the givers hold
+abbrev pub LevelsAre : Given → JobLevels → Type 0
+LevelsAre g l = (needs : List Need) → NeedsIn (jobs g) needs → GiversAre (g .givers) needs → l ≡ levelsOf (jobs g) needs
+
+-- 15: has each job its name and its level in centimetres?
+abbrev pub labels : Given → Rows → Bool
+labels g r = labelledIn (g .file) (g .offsets) (g .table) (r .offset) (jobs g)
+
+-- 16 and 17, of slots, boards, starts and limit: the number of the first that says no, or 0
+abbrev pub cells : Given → Rows → ℕ
+cells g r = cellNumber (g .counts .limit) (g .counts .sockets) (r .slots) (r .boards) (take (r .count) (r .start)) (take (r .count) (r .board))
+
+-- 18: are the needs kept?
+abbrev pub kept : Given → Rows → Bool
+kept g r = setsKept (g .givers) (take (jobs g) (r .start)) (take (jobs g) (r .board))
+
+-- questions 2 to 10 and 21 are yes
+pub record FileRead (g : Given) : Type 0 where
+  pub bytes : (i : ℕ) → at (g .file) i < 256
+  pub reads : Answered g
+  pub ok : g .counts .number ≡ 0
+
+-- and 11
+pub record NoCircle (g : Given) : Type 0 where
+  pub file-read : FileRead g
+  pub levels : JobLevels
+  pub levels-are : LevelsAre g levels
+  pub free : levels .ok ≡ true
+
+-- and 14: the rows are read, and are as many as the jobs
+pub record RowsFit (g : Given) (r : Rows) : Type 0 where
+  pub no-circle : NoCircle g
+  pub rows-read : RowsRead (g .table) r
+  pub count-is : r .count ≡ jobs g
+
+-- and 15
+pub record LabelsRight (g : Given) (r : Rows) : Type 0 where
+  pub rows-fit : RowsFit g r
+  pub right : labels g r ≡ true
+
+-- and 16 and 17
+pub record CellsRight (g : Given) (r : Rows) : Type 0 where
+  pub labels-right : LabelsRight g r
+  pub right : cells g r ≡ 0
+
+-- ---- the ways out
+
+-- a refusal by question q
+abbrev pub Refuses : Given → ℕ → Type 0
+Refuses g q = verdict.Refused q ≡ verdictOf (check (g .file) (g .table))
+
+-- what the check gives
+abbrev Gives : Given → Answer Table → Type 0
+Gives g x = check (g .file) (g .table) ≡ x
+
+refused-by : (g : Given) (q : ℕ) → Gives g (refused q) → Refuses g q
+unfolding verdictOf
+refused-by g q e = rw e refl
+
+-- ---- questions 2 to 10, and 21
+
+-- the reader says no
+pub file-refused : (g : Given) → Answered g → (g .counts .number ≡ 0 → ⊥) → Refuses g (g .counts .number)
+unfolding check after
+file-refused g reads n = refused-by g (g .counts .number) (rw (number-refused (readFile (g .file)) (g .counts .number) (reads .number-is) n) refl)
+
+module _ {g : Given} (read : FileRead g) where
+  -- what the file says
+  file-got : (f : JobFile) × (readFile (g .file) ≡ got f)
+  file-got = read-got (g .file) (sym (read .reads .number-is) ∙ read .ok)
+
+  abbrev jobFile : JobFile
+  jobFile = file-got .0
+
+  file-is : Readable jobFile
+  file-is = readable (g .file) (bytes-all (g .file) (read .bytes)) jobFile (file-got .1)
+
+  -- what the reader holds of it
+  held : Held (g .file) jobFile (stateOf (g .counts) (g .offsets) (g .givers) (g .takers))
+  held = read .reads .held jobFile (file-got .1)
+
+  -- so there are at most 64 jobs
+  pub jobs-few : jobs g ≤ 64
+  jobs-few = held .few
+
+  -- there is a set of givers for each of them
+  pub givers-long : length (g .givers) ≡ 64
+  givers-long = held .sizes .1
+
+  -- and the needs are between them
+  needs-in : NeedsIn (jobs g) (jobFile .needs)
+  needs-in a k m = let w = file-is .needs-in a k m in (omega (arith, w .0, held .jobs-is), omega (arith, w .1, held .jobs-is))
+
+  -- ---- question 11
+
+  module _ (levels : JobLevels) (levels-are : LevelsAre g levels) where
+    free : circleFree (length (jobFile .jobs)) (jobFile .needs) ≡ levels .ok
+    free =
+        let e = levels-are (jobFile .needs) needs-in (held .givers-are) in
+        rw (← (held .jobs-is)) (sym (levels-ok (jobs g) (jobFile .needs)) ∙ sym (ap (λ (l : JobLevels). l .ok) e))
+
+    asked : Gives g (ask (levels .ok) 11 (after (decode (eqb (length (jobFile .jobs))) (g .table)) (q15 jobFile)))
     unfolding check after
-    file-refused n = refused-by (F .number) (rw (number-refused (readFile file) (F .number) (reads .number-is) n) refl)
+    asked = rw (file-got .1) (rw free refl)
 
-    module _ (bytes : (i : ℕ) → at file i < 256) (ok : F .number ≡ 0) where
-      file-got : (f : JobFile) × (readFile file ≡ got f)
-      file-got = read-got file (sym (reads .number-is) ∙ ok)
+    -- the needs are not free of circles
+    pub circle : levels .ok ≡ false → Refuses g 11
+    unfolding ask
+    circle e = refused-by g 11 (asked ∙ rw e refl)
 
-      f : JobFile
-      f = file-got .0
+-- ---- question 14
 
-      file-is : Readable f
-      unfolding f
-      file-is = readable file (bytes-all file bytes) (file-got .0) (file-got .1)
+module _ {g : Given} (free : NoCircle g) where
+  -- the file, and that the rows are one per job
+  abbrev fileOf : JobFile
+  fileOf = jobFile (free .file-read)
 
-      held : Held file f (stateOf F offsets givers takers)
-      unfolding f
-      held = reads .held (file-got .0) (file-got .1)
+  abbrev many : ℕ → Bool
+  many = eqb (length (fileOf .jobs))
 
-      pub jobs-few : F .jobs ≤ 64
-      jobs-few = held .few
+  decoding : Gives g (after (decode many (g .table)) (q15 fileOf))
+  unfolding ask
+  decoding = asked (free .file-read) (free .levels) (free .levels-are) ∙ rw (free .free) refl
 
-      needs-in : NeedsIn (F .jobs) (f .needs)
-      needs-in g k m = let w = file-is .needs-in g k m in (omega (arith, w .0, held .jobs-is), omega (arith, w .1, held .jobs-is))
+  -- the rows are not read
+  pub not-read : (r : Rows) → Decodes (g .table) r → r .ok ≡ false → Refuses g 14
+  unfolding after
+  not-read r rows e = refused-by g 14 (decoding ∙ rw (rows .not-read e many few) refl)
+    where
+      few : Few many
+      few n t = let p : length (fileOf .jobs) ≡ n = simp tests at t in omega (arith, file-is (free .file-read) .jobs-in)
 
-      -- ---- question 11
+  -- they are fewer than the jobs, or more
+  pub other-count : {r : Rows} → RowsRead (g .table) r → (r .count ≡ jobs g → ⊥) → Refuses g 14
+  unfolding after
+  other-count {r} rows n =
+      refused-by g 14 (decoding ∙ rw (rows .decoded many, ask-no (many (r .count)) 14 (got (decodedTable (g .table) (r .count))) other) refl)
+    where
+      other : T (many (r .count)) → ⊥
+      other t = let p : length (fileOf .jobs) ≡ r .count = simp tests at t in n (sym p ∙ sym (held (free .file-read) .jobs-is))
 
-      module _ (levels : JobLevels) (levels-are : (needs : List Need) → NeedsIn (F .jobs) needs → GiversAre givers needs → levels ≡ levelsOf (F .jobs) needs) where
-        free : circleFree (length (f .jobs)) (f .needs) ≡ levels .ok
-        free = rw (← (held .jobs-is)) (sym (levels-ok (F .jobs) (f .needs)) ∙ sym (ap (λ (l : JobLevels). l .ok) (levels-are (f .needs) needs-in (held .givers-are))))
+-- ---- question 15
 
-        asked : check file table ≡ ask (levels .ok) 11 (after (decode (eqb (length (f .jobs))) table) (q15 f))
-        unfolding check after f
-        asked = rw (file-got .1) (rw free refl)
+module _ {g : Given} {r : Rows} (fit : RowsFit g r) where
+  -- the file and the table
+  abbrev f : JobFile
+  f = fileOf (fit .no-circle)
 
-        pub circle : levels .ok ≡ false → verdict.Refused 11 ≡ verdictOf (check file table)
-        unfolding ask
-        circle e = refused-by 11 (asked ∙ rw e refl)
+  abbrev t : Table
+  t = decodedTable (g .table) (r .count)
 
-        -- ---- question 14
+  file-held : Held (g .file) f (stateOf (g .counts) (g .offsets) (g .givers) (g .takers))
+  file-held = held (fit .no-circle .file-read)
 
-        module _ (no-circle : levels .ok ≡ true) (r : table-rows.Rows) (rows : Decodes table r) where
-          decoding : check file table ≡ after (decode (eqb (length (f .jobs))) table) (q15 f)
-          unfolding ask
-          decoding = asked ∙ rw no-circle refl
+  size-is : length (f .jobs) ≡ r .count
+  size-is = sym (fit .count-is ∙ file-held .jobs-is)
 
-          pub not-read : r .ok ≡ false → verdict.Refused 14 ≡ verdictOf (check file table)
-          unfolding after
-          not-read e = refused-by 14 (decoding ∙ rw (rows .not-read e (eqb (length (f .jobs))) (λ n t. let p : length (f .jobs) ≡ n = simp tests at t in omega (arith, file-is .jobs-in))) refl)
+  questions : Gives g (q15 f t)
+  unfolding after
+  questions =
+      decoding (fit .no-circle)
+      ∙ rw (fit .rows-read .decoded (eqb (length (f .jobs))), ask-yes (eqb (length (f .jobs)) (r .count)) 14 (got t) (simp tests size-is)) refl
 
-          module _ (is-read : r .ok ≡ true) where
-            row-held : RowsRead table r
-            row-held = rows .held is-read
+  -- the arrays are long enough
+  pub rows-long : (jobs g ≤ length (r .start)) × (jobs g ≤ length (r .board))
+  rows-long = omega (arith, fit .rows-read .sizes, fit .rows-read .count-in, fit .count-is)
 
-            pub other-count : (r .count ≡ F .jobs → ⊥) → verdict.Refused 14 ≡ verdictOf (check file table)
-            unfolding after
-            other-count n = refused-by 14 (decoding ∙ rw (row-held .decoded (eqb (length (f .jobs))), ask-no (eqb (length (f .jobs)) (r .count)) 14 (got (tableOf table (r .count))) (λ t. let p : length (f .jobs) ≡ r .count = simp tests at t in n (sym p ∙ sym (held .jobs-is)))) refl)
+  -- the parts of the code have an entry per job
+  pub starts-long : length (take (jobs g) (r .start)) ≡ jobs g
+  starts-long = length-take-le (jobs g) (r .start) (rows-long .0)
 
-            -- ---- question 15
+  pub boards-long : length (take (jobs g) (r .board)) ≡ jobs g
+  boards-long = length-take-le (jobs g) (r .board) (rows-long .1)
 
-            module _ (count-is : r .count ≡ F .jobs) where
-              n-is : length (f .jobs) ≡ r .count
-              n-is = sym (count-is ∙ held .jobs-is)
+  -- where the fields of job and row i begin
+  pub placed : (i : ℕ) → i < jobs g → Placed (g .file) (at (g .offsets) i) (g .table) (at (r .offset) i)
+  placed i h = rw (fit .rows-read .offsets-are i (omega arith)) record {
+    job-whole = file-held .offsets-whole i h;
+    job-long = long (value (g .file) (at (g .offsets) i)) (rw (file-held .offsets-are i h) named);
+    row-whole = row .is-whole;
+    row-long = omega (arith, row .sizes);
+  }
+    where
+      row : IsRow (g .table) (rowStart (g .table) i)
+      row = row-is (g .table) (rowStart (g .table) i) .0 (fit .rows-read .rows-are i (omega (arith, fit .count-is)))
 
-              questions : check file table ≡ q15 f (tableOf table (r .count))
-              unfolding after
-              questions = decoding ∙ rw (row-held .decoded (eqb (length (f .jobs))), ask-yes (eqb (length (f .jobs)) (r .count)) 14 (got (tableOf table (r .count))) (simp tests n-is)) refl
+      named : T (nameOk (nthJob (f .jobs) i .name))
+      named = file-is (fit .no-circle .file-read) .names-in (nthJob (f .jobs) i) (nth-mem (f .jobs) i _ (omega (arith, file-held .jobs-is)))
 
-              -- the arrays are long enough
-              pub rows-fit : (F .jobs ≤ length (r .start)) × (F .jobs ≤ length (r .board))
-              rows-fit = omega (arith, row-held .sizes, row-held .count-in, count-is)
+      long : (v : List ℕ) → T (nameOk (jobOf v .name)) → 2 ≤ length v
+      long v n = unfold nameOk jobOf in
+          let w = T-and (leb 1 (length (drop 2 v))) _ .0 n in omega (arith, T-leb 1 (length (drop 2 v)) .0 (w .0), length-drop 2 v)
 
-              -- where the fields of job and row i begin
-              pub placed : (i : ℕ) → i < F .jobs → Placed file (at offsets i) table (at (r .offset) i)
-              placed i h = rw (row-held .offsets-are i (omega arith)) record {
-                job-whole = held .offsets-whole i h;
-                job-long = long (value file (at offsets i)) (rw (held .offsets-are i h) (file-is .names-in (nthJob (f .jobs) i) (nth-mem (f .jobs) i _ (omega (arith, held .jobs-is)))));
-                row-whole = row .is-whole;
-                row-long = omega (arith, row .sizes);
-              }
-                where
-                  row : IsRow table (rowStart table i)
-                  row = row-is table (rowStart table i) .0 (row-held .rows-are i (omega arith))
+  -- the row that the code looks at is row i
+  row-same : (i : ℕ) → i < jobs g → rowOf (value (g .table) (at (r .offset) i)) ≡ nthRow (t .rows) i
+  unfolding decodedTable rowNumber
+  row-same i h =
+      let l : i < r .count = omega (arith, fit .count-is) in
+      let z : 0 + i ≡ i = omega arith in
+      rw (fit .rows-read .offsets-are i l) (sym (tabulate-at (rowNumber (g .table)) (r .count) 0 i _ l ∙ ap (rowNumber (g .table)) z))
 
-                  long : (v : List ℕ) → T (nameOk (jobOf v .name)) → 2 ≤ length v
-                  long v t = unfold nameOk jobOf in let w = T-and (leb 1 (length (drop 2 v))) _ .0 t in omega (arith, T-leb 1 (length (drop 2 v)) .0 (w .0), length-drop 2 v)
+  -- the code's question is that of the rules
+  labels-are : labels g r ≡ labelled (length (f .jobs)) (f .jobs) (t .rows)
+  unfolding labelledIn labelled labelledBy
+  labels-are = rw (← (file-held .jobs-is)) (all-same (jobs g) _ _ (λ i h. rw (file-held .offsets-are i h, row-same i h) refl))
 
-              row-same : (i : ℕ) → i < F .jobs → rowOf (value table (at (r .offset) i)) ≡ nthRow (tableOf table (r .count) .rows) i
-              unfolding tableOf rowNumber
-              row-same i h = rw (row-held .offsets-are i (omega arith)) (sym (tabulate-at (rowNumber table) (r .count) 0 i _ (omega arith) ∙ let z : 0 + i ≡ i = omega arith in ap (rowNumber table) z))
+  -- a job has another name or level
+  pub wrong-label : labels g r ≡ false → Refuses g 15
+  unfolding ask
+  wrong-label e = refused-by g 15 (questions ∙ rw (sym labels-are ∙ e) refl)
 
-              labels : labelledIn file offsets table (r .offset) (F .jobs) ≡ labelled (length (f .jobs)) (f .jobs) (tableOf table (r .count) .rows)
-              unfolding labelledIn labelled labelledBy
-              labels = rw (← (held .jobs-is)) (all-same (F .jobs) _ _ (λ i h. rw (held .offsets-are i h, row-same i h) refl))
+-- ---- questions 16 and 17
 
-              pub wrong-label : labelledIn file offsets table (r .offset) (F .jobs) ≡ false → verdict.Refused 15 ≡ verdictOf (check file table)
-              unfolding ask
-              wrong-label e = refused-by 15 (questions ∙ rw (sym labels ∙ e) refl)
+module _ {g : Given} {r : Rows} (right : LabelsRight g r) where
+  abbrev fits : RowsFit g r
+  fits = right .rows-fit
 
-              -- ---- questions 16 and 17
+  sixteen : Gives g (q16 (f fits) (t fits))
+  unfolding ask
+  sixteen = questions fits ∙ rw (sym (labels-are fits) ∙ right .right) refl
 
-              module _ (right : labelledIn file offsets table (r .offset) (F .jobs) ≡ true)
-                  (q : ℕ) (q-is : q ≡ cellNumber (F .limit) (F .sockets) (r .slots) (r .boards) (take (r .count) (r .start)) (take (r .count) (r .board))) where
-                sixteen : check file table ≡ q16 f (tableOf table (r .count))
-                unfolding ask
-                sixteen = questions ∙ rw (sym labels ∙ right) refl
+  -- question q says no
+  pub bad-cells : {q : ℕ} → q ≡ cells g r → (q ≡ 0 → ⊥) → Refuses g q
+  unfolding mostBoards
+  bad-cells {q} e n =
+      let h = file-held fits in
+      let no = cells-no (g .table) r (fits .rows-read) (g .counts .limit) (g .counts .sockets) q (q18 (f fits) (t fits)) e n in
+      refused-by g q (sixteen ∙ rw (size-is fits, ← (h .limit-is), ← (h .sockets-is)) no)
 
-                pub bad-cells : (q ≡ 0 → ⊥) → verdict.Refused q ≡ verdictOf (check file table)
-                unfolding mostBoards
-                bad-cells n = refused-by q (sixteen ∙ rw (n-is, ← (held .limit-is), ← (held .sockets-is)) (cells-no table r row-held (F .limit) (F .sockets) q (q18 f (tableOf table (r .count))) q-is n))
+-- ---- question 18
 
-                -- ---- question 18
+module _ {g : Given} {r : Rows} (right : CellsRight g r) where
+  abbrev fit : RowsFit g r
+  fit = right .labels-right .rows-fit
 
-                module _ (z : q ≡ 0) where
-                  eighteen : check file table ≡ q18 f (tableOf table (r .count))
-                  unfolding mostBoards
-                  eighteen = sixteen ∙ rw (n-is, ← (held .limit-is), ← (held .sockets-is)) (cells-yes table r row-held (F .limit) (F .sockets) q (q18 f (tableOf table (r .count))) q-is z)
+  eighteen : Gives g (q18 (f fit) (t fit))
+  unfolding mostBoards
+  eighteen =
+      let h = file-held fit in
+      let yes = cells-yes (g .table) r (fit .rows-read) (g .counts .limit) (g .counts .sockets) (cells g r) (q18 (f fit) (t fit)) refl (right .right) in
+      sixteen (right .labels-right) ∙ rw (size-is fit, ← (h .limit-is), ← (h .sockets-is)) yes
 
-                  kept : setsKept givers (take (F .jobs) (r .start)) (take (F .jobs) (r .board)) ≡ needsKept (f .needs) (starts (tableOf table (r .count))) (boardsOf (tableOf table (r .count)))
-                  kept =
-                      ap₂ (setsKept givers) (ap (λ (n : ℕ). take n (r .start)) (sym count-is) ∙ row-held .starts-are) (ap (λ (n : ℕ). take n (r .board)) (sym count-is) ∙ row-held .boards-are)
-                      ∙ kept-is (F .jobs) (f .needs) givers (starts (tableOf table (r .count))) (boardsOf (tableOf table (r .count))) needs-in (held .givers-are) (length-map (tableOf table (r .count) .rows) (λ w. w .start) ∙ rows-length table (r .count) ∙ count-is) (held .few)
+  -- the code's question is that of the rules
+  kept-so : kept g r ≡ needsKept (f fit .needs) (starts (t fit)) (boardsOf (t fit))
+  kept-so =
+      ap₂ (setsKept (g .givers)) (part (r .start) ∙ fit .rows-read .starts-are) (part (r .board) ∙ fit .rows-read .boards-are)
+      ∙ kept-is (jobs g) (f fit .needs) (g .givers) (starts (t fit)) (boardsOf (t fit)) (needs-in read) (held read .givers-are) long (jobs-few read)
+    where
+      read : FileRead g
+      read = fit .no-circle .file-read
 
-                  pub need-broken : setsKept givers (take (F .jobs) (r .start)) (take (F .jobs) (r .board)) ≡ false → verdict.Refused 18 ≡ verdictOf (check file table)
-                  unfolding ask
-                  need-broken e = refused-by 18 (eighteen ∙ rw (sym kept ∙ e) refl)
+      part : (l : List ℕ) → take (jobs g) l ≡ take (r .count) l
+      part l = ap (λ (n : ℕ). take n l) (sym (fit .count-is))
 
-                  pub passes : setsKept givers (take (F .jobs) (r .start)) (take (F .jobs) (r .board)) ≡ true → verdict.Passes ≡ verdictOf (check file table)
-                  unfolding ask verdictOf
-                  passes e = rw (eighteen, sym kept ∙ e) refl
+      long : length (starts (t fit)) ≡ jobs g
+      long = length-map (t fit .rows) (λ w. w .start) ∙ rows-length (g .table) (r .count) ∙ fit .count-is
+
+  -- a need is not kept
+  pub need-broken : kept g r ≡ false → Refuses g 18
+  unfolding ask
+  need-broken e = refused-by g 18 (eighteen ∙ rw (sym kept-so ∙ e) refl)
+
+  -- all questions are yes
+  pub passes : kept g r ≡ true → verdict.Passes ≡ verdictOf (check (g .file) (g .table))
+  unfolding ask verdictOf
+  passes e = rw (eighteen, sym kept-so ∙ e) refl

@@ -13,15 +13,17 @@ use Rattle.rules.specs.Table.{starts, boardsOf, sized, apartb, rowStart}
 use Rattle.rules.specs.Answers.{jobAt, lookupTable, lookup, nameSpan}
 use Rattle.laws.specs.Tests.{tests}
 use Rattle.laws.specs.Fields.{ask-yes, ask-no, whole-is, length-value, after-head}
+use Rattle.laws.specs.Decoded.{isRow, decodedTable}
+use Rattle.laws.specs.Lookup.{job-row}
 use Rattle.rows.specs.declared.Rows as code
 use Rattle.table.specs.declared.places.Found.{Found}
 use Rattle.table.specs.declared.places.Found.the-variants as found
 use Rattle.table.specs.declared.places.Place.{Place}
 use Rattle.table.specs.declared.places.Place.the-variants as place
-use Rattle.rows.specs.Rows.{isRow, tableOf, RowsRead, Decodes}
+use Rattle.rows.specs.Rows.{RowsRead, Decodes}
 use Rattle.rows.specs.RowWays.{row-is}
 use Rattle.table.specs.Cells.{rows-length, cells-yes, cells-no}
-use Rattle.table.specs.Lookup.{job-at, job-in}
+use Rattle.table.specs.Lookup.{job-at}
 use Rattle.table.specs.Names.{job-few, name-lies}
 use Rattle.table.specs.Entries.{cellNumber, jobIn, foundOf, placeOf, jobOf}
 
@@ -45,24 +47,24 @@ module _ (bs : List ℕ) (s b : ℕ) where
 
       pub no-rows : r .count < 1 → place.Refused 14 ≡ placeOf bs (lookup bs s b)
       unfolding lookupTable after
-      no-rows h = refused-by 14 (rw (held .decoded (λ n. leb 1 n && leb n maxJobs), ask-no (leb 1 (r .count) && leb (r .count) maxJobs) 14 (got (tableOf bs (r .count))) (λ t. let w = simp tests at t in omega arith)) refl)
+      no-rows h = refused-by 14 (rw (held .decoded (λ n. leb 1 n && leb n maxJobs), ask-no (leb 1 (r .count) && leb (r .count) maxJobs) 14 (got (decodedTable bs (r .count))) (λ t. let w = simp tests at t in omega arith)) refl)
 
       module _ (some : 1 ≤ r .count) (q : ℕ) (q-is : q ≡ cellNumber 64 0 (r .slots) (r .boards) (take (r .count) (r .start)) (take (r .count) (r .board))) where
-        asked : lookupTable bs ≡ ask (sized maxLimit maxBoards (tableOf bs (r .count))) 16 (ask (apartb (r .count) (starts (tableOf bs (r .count))) (boardsOf (tableOf bs (r .count)))) 17 (got (tableOf bs (r .count))))
+        asked : lookupTable bs ≡ ask (sized maxLimit maxBoards (decodedTable bs (r .count))) 16 (ask (apartb (r .count) (starts (decodedTable bs (r .count))) (boardsOf (decodedTable bs (r .count)))) 17 (got (decodedTable bs (r .count))))
         unfolding lookupTable after
-        asked = rw (held .decoded (λ n. leb 1 n && leb n maxJobs), ask-yes (leb 1 (r .count) && leb (r .count) maxJobs) 14 (got (tableOf bs (r .count))) (simp tests (some, held .count-in)), rows-length bs (r .count)) refl
+        asked = rw (held .decoded (λ n. leb 1 n && leb n maxJobs), ask-yes (leb 1 (r .count) && leb (r .count) maxJobs) 14 (got (decodedTable bs (r .count))) (simp tests (some, held .count-in)), rows-length bs (r .count)) refl
 
         pub bad-cells : (q ≡ 0 → ⊥) → place.Refused q ≡ placeOf bs (lookup bs s b)
         unfolding choose
-        bad-cells n = refused-by q (asked ∙ cells-no bs r held 64 0 q (got (tableOf bs (r .count))) q-is n)
+        bad-cells n = refused-by q (asked ∙ cells-no bs r held 64 0 q (got (decodedTable bs (r .count))) q-is n)
 
         module _ (z : q ≡ 0) (j : ℕ) (j-is : j ≡ jobIn 1 (take (r .count) (r .start)) (take (r .count) (r .board)) s b) where
-          job-is : jobAt 1 (tableOf bs (r .count) .rows) s b ≡ j
-          job-is = job-at 1 (tableOf bs (r .count) .rows) s b ∙ sym (j-is ∙ rw (held .starts-are, held .boards-are) refl)
+          job-is : jobAt 1 (decodedTable bs (r .count) .rows) s b ≡ j
+          job-is = job-at 1 (decodedTable bs (r .count) .rows) s b ∙ sym (j-is ∙ rw (held .starts-are, held .boards-are) refl)
 
           answered : lookup bs s b ≡ got j
           unfolding lookup after choose
-          answered = rw (asked ∙ cells-yes bs r held 64 0 q (got (tableOf bs (r .count))) q-is z) (ap got job-is)
+          answered = rw (asked ∙ cells-yes bs r held 64 0 q (got (decodedTable bs (r .count))) q-is z) (ap got job-is)
 
           pub idle : j ≡ 0 → place.Idle ≡ placeOf bs (lookup bs s b)
           unfolding placeOf
@@ -71,7 +73,10 @@ module _ (bs : List ℕ) (s b : ℕ) where
           module _ (job : j ≡ 0 → ⊥) where
             -- the job's row
             pub row-in : j - 1 < r .count
-            row-in = let e : j ≡ suc (j - 1) = omega arith in omega (arith, job-in 1 (tableOf bs (r .count) .rows) s b (j - 1) (job-is ∙ e), rows-length bs (r .count))
+            row-in =
+                let e : j ≡ suc (j - 1) = omega arith in
+                let w = job-row s b 1 (decodedTable bs (r .count) .rows) (j - 1) (job-is ∙ e) in
+                omega (arith, w .1, w .2 .row-in, rows-length bs (r .count))
 
             pub row-here : (a : ℕ) → a ≡ at (r .offset) (j - 1) → (a ≡ rowStart bs (j - 1)) × T (isRow bs a)
             row-here a e = let p : a ≡ rowStart bs (j - 1) = e ∙ held .offsets-are (j - 1) row-in in (p, rw p (held .rows-are (j - 1) row-in))

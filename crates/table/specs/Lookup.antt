@@ -1,6 +1,6 @@
--- The lookup over the rows that were read: questions 16 and 17, the first row of a slot and board, and the name. Assumes nothing.
+-- The lookup over the rows that were read: the first row with a slot and a board. Assumes nothing.
 use mathlib.Core.Path.{_≡_, refl, ap, _∙_}
-use mathlib.Core.Bool.{Bool, true, false, _&&_}
+use mathlib.Core.Bool.{true, false, _&&_}
 use mathlib.Core.List.{List, [], _∷_, map}
 use Prim.Native.Nat.{ℕ, suc, _+_, _≤_, _<_}
 use native.Mathlib.Omega.{arith}
@@ -37,13 +37,3 @@ pub job-at : (i : ℕ) (rows : List Row) (s b : ℕ) → jobAt i rows s b ≡ jo
 unfolding jobAt jobIn
 job-at i [] s b = refl
 job-at i (r ∷ rows) s b = ap (choose (eqb (r .start) s && eqb (r .board) b) i) (job-at (suc i) rows s b)
-
--- a job number is that of a row
-pub job-in : (i : ℕ) (rows : List Row) (s b j : ℕ) → jobAt i rows s b ≡ suc j → suc j < i + length rows
-unfolding jobAt choose
-job-in i [] s b j e = absurd (omega arith)
-job-in i (r ∷ rows) s b j e = go (eqb (r .start) s && eqb (r .board) b) e (job-in (suc i) rows s b j)
-  where
-    go : (c : Bool) → choose c i (jobAt (suc i) rows s b) ≡ suc j → (jobAt (suc i) rows s b ≡ suc j → suc j < suc i + length rows) → suc j < i + suc (length rows)
-    go true q f = omega arith
-    go false q f = omega (arith, f q)

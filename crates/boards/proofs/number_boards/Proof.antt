@@ -60,7 +60,8 @@ loop-less c =
 
 loop-again : tie.Need-loop-again Inv-loop μ-loop
 loop-again c =
-    (omega arith, rw (c .before .before .before .loop .inv .1) (numbered-turn _ _ (omega arith)), rw (c .greater .ensures, c .before .before .before .loop .inv .1, c .before .before .before .loop .inv .2) (most-turn _ _ (omega arith)))
+    let l = c .before .before .before .loop in
+    (omega arith, rw (l .inv .1) (numbered-turn _ _ (omega arith)), rw (c .greater .ensures, l .inv .1) (most-turn _ _ _ (omega arith) (l .inv .2)))
 
 returns : tie.Need-returns Inv-loop μ-loop
 returns c =

@@ -1,8 +1,8 @@
 -- `commands::check_table` meets its contract. Assumes nothing.
 use native.Mathlib.Omega.{arith}
 use mathlib.Core.Logic.{inl}
-use Rattle.gate.specs.Laws.{verdict-most}
 use borrow.Author.Needs.{needs}
+use Rattle.laws.specs.Refusals.{CheckNumber, number-in, check-number}
 use Rattle.commands.proofs.check_table.Statement.{statement}
 use Rattle.commands.proofs.check_table.Tie as tie
 
@@ -42,24 +42,20 @@ returns-3 c = inl (omega arith)
 array-share-prefix-file : tie.Need-array-share-prefix-file
 array-share-prefix-file c = search needs
 
-slice-aggregate-check : tie.Need-slice-aggregate-check
-slice-aggregate-check c = search needs
+slice-aggregate-check-bytes : tie.Need-slice-aggregate-check-bytes
+slice-aggregate-check-bytes c = search needs
 
 array-share-prefix-table : tie.Need-array-share-prefix-table
 array-share-prefix-table c = search needs
 
-slice-aggregate-check-2 : tie.Need-slice-aggregate-check-2
-slice-aggregate-check-2 c = search needs
+slice-aggregate-check-bytes-2 : tie.Need-slice-aggregate-check-bytes-2
+slice-aggregate-check-bytes-2 c = search needs
 
-check-requires : tie.Need-check-requires
-check-requires c κs = search needs
-
-print-verdict-requires : tie.Need-print-verdict-requires
-print-verdict-requires c κs = search needs
+check-bytes-requires : tie.Need-check-bytes-requires
+check-bytes-requires c κs = search needs
 
 returns-4 : tie.Need-returns-4
-returns-4 c =
-    rw (c .print-verdict .ensures) (verdict-most _ _ _ (c .before .check .ensures))
+returns-4 c = rw (c .check-bytes .ensures) (number-in CheckNumber _ (check-number _ _))
 
 pub check-table-spec : {M : Type 1} → statement M
 check-table-spec =
@@ -77,9 +73,8 @@ check-table-spec =
     read-argument-requires-2
     returns-3
     array-share-prefix-file
-    slice-aggregate-check
+    slice-aggregate-check-bytes
     array-share-prefix-table
-    slice-aggregate-check-2
-    check-requires
-    print-verdict-requires
+    slice-aggregate-check-bytes-2
+    check-bytes-requires
     returns-4)

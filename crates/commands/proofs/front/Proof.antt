@@ -1,16 +1,16 @@
 -- `commands::front` meets its contract. Assumes nothing.
 use mathlib.Core.Path.{sym}
-use lib.Seq.{length-take-le}
+use native.Mathlib.Omega.{arith}
 use borrow.Author.Needs.{needs}
+use lib.Seq.{take-all, length-take-le}
 use Rattle.commands.proofs.front.Statement.{statement}
 use Rattle.commands.proofs.front.Tie as tie
 
 returns : tie.Need-returns
-returns c = search needs
+returns c = let a = c .before .args in sym (take-all (a .size) (a .buffer .now) (omega arith))
 
 slice-aggregate-result : tie.Need-slice-aggregate-result
-slice-aggregate-result c =
-    sym (length-take-le (c .before .before .args .size) (c .before .before .args .buffer .now) (search needs))
+slice-aggregate-result c = let a = c .before .before .args in sym (length-take-le (a .size) (a .buffer .now) (omega arith))
 
 returns-2 : tie.Need-returns-2
 returns-2 c = search needs

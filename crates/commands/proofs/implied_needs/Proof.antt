@@ -1,6 +1,7 @@
 -- `commands::implied_needs` meets its contract. Assumes nothing.
+use native.Mathlib.Omega.{arith}
 use borrow.Author.Needs.{needs}
-use Rattle.implied.specs.Answer.{listed-most}
+use Rattle.laws.specs.Refusals.{implied-numbers}
 use Rattle.commands.proofs.implied_needs.Statement.{statement}
 use Rattle.commands.proofs.implied_needs.Tie as tie
 
@@ -13,25 +14,17 @@ read-full-requires c κs = search needs
 array-share-prefix-file : tie.Need-array-share-prefix-file
 array-share-prefix-file c = search needs
 
-slice-aggregate-implied-needs : tie.Need-slice-aggregate-implied-needs
-slice-aggregate-implied-needs c = search needs
+slice-aggregate-list-bytes : tie.Need-slice-aggregate-list-bytes
+slice-aggregate-list-bytes c = search needs
 
-slice-aggregate-implied-needs-2 : tie.Need-slice-aggregate-implied-needs-2
-slice-aggregate-implied-needs-2 c = search needs
+slice-aggregate-list-bytes-2 : tie.Need-slice-aggregate-list-bytes-2
+slice-aggregate-list-bytes-2 c = search needs
 
-implied-needs-requires : tie.Need-implied-needs-requires
-implied-needs-requires c κs = search needs
-
-slice-aggregate-print-listed : tie.Need-slice-aggregate-print-listed
-slice-aggregate-print-listed c = search needs
-
-print-listed-requires : tie.Need-print-listed-requires
-print-listed-requires c κs = search needs
+list-bytes-requires : tie.Need-list-bytes-requires
+list-bytes-requires c κs = search needs
 
 returns : tie.Need-returns
-returns c =
-    let r = c .before .before .before .implied-needs in
-    rw (c .print-listed .ensures) (listed-most _ _ _ (r .result) (r .ensures))
+returns c = rw (c .before .list-bytes .ensures) (implied-numbers _ _ (omega arith))
 
 pub implied-needs-spec : {M : Type 1} → statement M
 implied-needs-spec =
@@ -40,9 +33,7 @@ implied-needs-spec =
     slice-aggregate-read-full
     read-full-requires
     array-share-prefix-file
-    slice-aggregate-implied-needs
-    slice-aggregate-implied-needs-2
-    implied-needs-requires
-    slice-aggregate-print-listed
-    print-listed-requires
+    slice-aggregate-list-bytes
+    slice-aggregate-list-bytes-2
+    list-bytes-requires
     returns)

@@ -1,7 +1,7 @@
 -- `commands::plan` meets its contract. Assumes nothing.
 use native.Mathlib.Omega.{arith}
-use Rattle.gate.specs.Laws.{planned-most}
 use borrow.Author.Needs.{needs}
+use Rattle.laws.specs.Demands.{plan-numbers}
 use Rattle.commands.proofs.plan.Statement.{statement}
 use Rattle.commands.proofs.plan.Tie as tie
 
@@ -17,27 +17,22 @@ read-full-requires c κs = search needs
 array-share-prefix-file : tie.Need-array-share-prefix-file
 array-share-prefix-file c = search needs
 
-slice-aggregate-plan : tie.Need-slice-aggregate-plan
-slice-aggregate-plan c = search needs
+slice-aggregate-plan-bytes : tie.Need-slice-aggregate-plan-bytes
+slice-aggregate-plan-bytes c = search needs
 
-slice-aggregate-plan-2 : tie.Need-slice-aggregate-plan-2
-slice-aggregate-plan-2 c = search needs
+slice-aggregate-plan-bytes-2 : tie.Need-slice-aggregate-plan-bytes-2
+slice-aggregate-plan-bytes-2 c = search needs
 
-slice-aggregate-plan-3 : tie.Need-slice-aggregate-plan-3
-slice-aggregate-plan-3 c = search needs
+slice-aggregate-plan-bytes-3 : tie.Need-slice-aggregate-plan-bytes-3
+slice-aggregate-plan-bytes-3 c = search needs
 
-plan-requires : tie.Need-plan-requires
-plan-requires c κs = search needs
-
-slice-aggregate-print-planned : tie.Need-slice-aggregate-print-planned
-slice-aggregate-print-planned c = search needs
-
-print-planned-requires : tie.Need-print-planned-requires
-print-planned-requires c κs = search needs
+plan-bytes-requires : tie.Need-plan-bytes-requires
+plan-bytes-requires c κs = search needs
 
 returns : tie.Need-returns
 returns c =
-    rw (c .print-planned .ensures) (planned-most _ _ _ (c .before .before .before .before .plan .result) _ _ (c .before .before .before .before .plan .ensures))
+    let w = c .before .before .before .before .before .before .before .before .before .large-buffer .ensures in
+    rw (c .before .before .plan-bytes .ensures) (plan-numbers _ _ _ (omega (arith, w)) (omega arith))
 
 pub plan-spec : {M : Type 1} → statement M
 plan-spec =
@@ -47,10 +42,8 @@ plan-spec =
     slice-aggregate-read-full
     read-full-requires
     array-share-prefix-file
-    slice-aggregate-plan
-    slice-aggregate-plan-2
-    slice-aggregate-plan-3
-    plan-requires
-    slice-aggregate-print-planned
-    print-planned-requires
+    slice-aggregate-plan-bytes
+    slice-aggregate-plan-bytes-2
+    slice-aggregate-plan-bytes-3
+    plan-bytes-requires
     returns)

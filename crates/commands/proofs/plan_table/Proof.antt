@@ -1,8 +1,8 @@
 -- `commands::plan_table` meets its contract. Assumes nothing.
 use native.Mathlib.Omega.{arith}
 use mathlib.Core.Logic.{inl}
-use Rattle.gate.specs.Laws.{planned-most}
 use borrow.Author.Needs.{needs}
+use Rattle.laws.specs.Demands.{plan-numbers}
 use Rattle.commands.proofs.plan_table.Statement.{statement}
 use Rattle.commands.proofs.plan_table.Tie as tie
 
@@ -33,36 +33,22 @@ returns-2 c = inl (omega arith)
 array-share-prefix-file : tie.Need-array-share-prefix-file
 array-share-prefix-file c = search needs
 
-slice-aggregate-plan : tie.Need-slice-aggregate-plan
-slice-aggregate-plan c = search needs
+slice-aggregate-plan-to-file : tie.Need-slice-aggregate-plan-to-file
+slice-aggregate-plan-to-file c = search needs
 
-slice-aggregate-plan-2 : tie.Need-slice-aggregate-plan-2
-slice-aggregate-plan-2 c = search needs
+slice-aggregate-plan-to-file-2 : tie.Need-slice-aggregate-plan-to-file-2
+slice-aggregate-plan-to-file-2 c = search needs
 
-slice-aggregate-plan-3 : tie.Need-slice-aggregate-plan-3
-slice-aggregate-plan-3 c = search needs
+slice-aggregate-plan-to-file-3 : tie.Need-slice-aggregate-plan-to-file-3
+slice-aggregate-plan-to-file-3 c = search needs
 
-plan-requires : tie.Need-plan-requires
-plan-requires c κs = search needs
-
-slice-aggregate-save : tie.Need-slice-aggregate-save
-slice-aggregate-save c = search needs
-
-save-requires : tie.Need-save-requires
-save-requires c κs = search needs
+plan-to-file-requires : tie.Need-plan-to-file-requires
+plan-to-file-requires c κs = search needs
 
 returns-3 : tie.Need-returns-3
-returns-3 c = inl (omega arith)
-
-slice-aggregate-print-planned : tie.Need-slice-aggregate-print-planned
-slice-aggregate-print-planned c = search needs
-
-print-planned-requires : tie.Need-print-planned-requires
-print-planned-requires c κs = search needs
-
-returns-4 : tie.Need-returns-4
-returns-4 c =
-    rw (c .print-planned .ensures) (planned-most _ _ _ (c .before .before .before .before .before .before .before .plan .result) _ _ (c .before .before .before .before .before .before .before .plan .ensures))
+returns-3 c =
+    let w = c .before .before .before .before .before .before .before .before .before .before .before .large-buffer .ensures in
+    rw (c .before .before .plan-to-file .ensures) (plan-numbers _ _ _ (omega (arith, w)) (omega arith))
 
 pub plan-table-spec : {M : Type 1} → statement M
 plan-table-spec =
@@ -77,13 +63,8 @@ plan-table-spec =
     read-argument-requires
     returns-2
     array-share-prefix-file
-    slice-aggregate-plan
-    slice-aggregate-plan-2
-    slice-aggregate-plan-3
-    plan-requires
-    slice-aggregate-save
-    save-requires
-    returns-3
-    slice-aggregate-print-planned
-    print-planned-requires
-    returns-4)
+    slice-aggregate-plan-to-file
+    slice-aggregate-plan-to-file-2
+    slice-aggregate-plan-to-file-3
+    plan-to-file-requires
+    returns-3)

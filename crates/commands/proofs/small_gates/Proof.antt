@@ -9,15 +9,15 @@ use Rattle.commands.proofs.small_gates.Tie as tie
 small-gates-requires : tie.Need-small-gates-requires
 small-gates-requires c κs = search needs
 
-slice-aggregate-print : tie.Need-slice-aggregate-print
-slice-aggregate-print c = search needs
+slice-aggregate-print-gates : tie.Need-slice-aggregate-print-gates
+slice-aggregate-print-gates c = search needs
 
-print-requires : tie.Need-print-requires
-print-requires c κs = search needs
+print-gates-requires : tie.Need-print-gates-requires
+print-gates-requires c κs = search needs
 
 returns : tie.Need-returns
-returns c = c .print .ensures ∙ ap allAgreed (c .before .before .small-gates .ensures) ∙ all-agreed
+returns c = c .print-gates .ensures ∙ ap allAgreed (c .before .before .small-gates .ensures) ∙ all-agreed
 
 pub small-gates-spec : {M : Type 1} → statement M
 small-gates-spec =
-    tie.close (tie.spec small-gates-requires slice-aggregate-print print-requires returns)
+    tie.close (tie.spec small-gates-requires slice-aggregate-print-gates print-gates-requires returns)

@@ -1,13 +1,11 @@
 -- `files::fill` meets its contract. Assumes nothing.
-use lib.ListN.{take}
-use Prim.Native.Nat.{ℕ}
+use mathlib.Core.Path.{_≡_, sym}
+use mathlib.Core.Bool.{true, false, true≢false}
 use mathlib.Core.List.{List}
-use lib.Seq.{length-take-le}
-use mathlib.Core.Path.{sym}
-use mathlib.Core.Path.{_≡_}
-use Prim.Native.Nat.{_≤_, _-_}
+use Prim.Native.Nat.{ℕ, _≤_, _-_}
 use borrow.Author.Needs.{needs}
-use lib.ListN.{length}
+use lib.ListN.{length, take}
+use lib.Seq.{length-take-le}
 use Rattle.files.proofs.fill.Statement.{statement}
 use Rattle.files.proofs.fill.Tie as tie
 
@@ -19,8 +17,9 @@ abbrev μ-loop : tie.MeasureT-loop
 μ-loop fd buf₀ count₀ buf count =
     length buf - count
 
-counts : (n : ℕ) (xs : List ℕ) → n ≤ length xs → (n ≤ length xs) × (n ≡ length (take n xs))
-counts n xs h = (h, sym (length-take-le n xs h))
+-- a count that is within the buffer, after a reading that did not fail
+counts : (n : ℕ) (xs : List ℕ) → n ≤ length xs → ((n ≤ length xs) × (n ≡ length (take n xs))) × (true ≡ false → n ≡ 0)
+counts n xs h = ((h, sym (length-take-le n xs h)), λ e. absurd (true≢false e))
 
 loop-holds : tie.Need-loop-holds Inv-loop μ-loop
 loop-holds c =

@@ -1,89 +1,126 @@
 -- `jobfile::read_fields` meets its contract. Assumes nothing.
 use mathlib.Core.Path.{_≡_, refl, sym, ap, _∙_}
-use Prim.Native.Nat.{_+_, _≤_, _-_}
+use Prim.Native.Nat.{_-_}
 use native.Mathlib.Omega.{arith}
 use borrow.Author.Needs.{needs}
 use lib.ListN.{length}
-use Rattle.jobfile.specs.declared.FieldAnswer.the-variants.{Field}
+use Rattle.fieldreader.specs.declared.FieldAnswer.the-variants.{Field}
+use Rattle.fieldreader.specs.Reader.{fieldAt, refusalOf}
+use Rattle.fieldreader.specs.FieldFound.{Stands, stands, value-is, bounds}
 use Rattle.jobset.specs.Arrays.{giversIn, takersIn}
-use Rattle.jobfile.specs.Reading.{fieldAt, refusalOf}
-use Rattle.jobfile.specs.FieldByField.{start-read, end-same, field-same-no, value-same-no, value-read, ReadTo, stands, value-is, bounds}
+use Rattle.jobfile.specs.FieldByField.{start-read, end-same, field-same-no, value-same-no, value-read, ReadTo}
 use Rattle.jobfile.proofs.read_fields.Statement.{statement}
 use Rattle.jobfile.proofs.read_fields.Tie as tie
 
+-- the fields before `at` are read into counts and arrays
 abbrev Inv-loop : tie.InvT-loop
 Inv-loop file offsets₀ tables₀ c₀ at₀ offsets tables c at =
     ReadTo file c offsets (giversIn tables) (takersIn tables) at × (length tables ≡ length tables₀)
 
+-- what is left of the file
 abbrev μ-loop : tie.MeasureT-loop
 μ-loop file offsets₀ tables₀ c₀ at₀ offsets tables c at =
     length file - at
 
-found : (c : tie.After-known-told Inv-loop μ-loop) → fieldAt (c .before .before .before .before .before .before .before .args .file .now) (c .before .before .before .before .before .loop .at) (c .before .before .before .before .before .loop .c .fields) ≡ Field (c .before .f .given .0 .0) (c .before .f .given .0 .1 .0) (c .before .f .given .0 .1 .1 .0)
+-- ---- the way back, from landmark to landmark
+
+-- from a turn of the loop to the start
+abbrev to-start : tie.In-loop Inv-loop μ-loop → tie.Start Inv-loop μ-loop
+to-start c = c .before .before .before
+
+-- from the field that was read to the turn
+abbrev to-turn : tie.After-known-told Inv-loop μ-loop → tie.In-loop Inv-loop μ-loop
+to-turn c = c .before .before .before .before
+
+-- from what its value gave to the field
+abbrev to-field : tie.After-take-field Inv-loop μ-loop → tie.After-known-told Inv-loop μ-loop
+to-field c = c .before .before .before .before
+
+-- ---- what is known on the way
+
+-- the field reader has found a field
+found : (c : tie.After-known-told Inv-loop μ-loop) → let l = to-turn c .before .loop in let w = c .before .f .given .0 in
+    fieldAt (to-start (to-turn c) .args .file .now) (l .at) (l .c .fields) ≡ Field (w .0) (w .1 .0) (w .1 .1 .0)
 found c = sym (c .before .before .before .field-at .ensures) ∙ c .before .f .given .1
 
-lies : (c : tie.After-known-told Inv-loop μ-loop) → (c .before .before .before .before .before .loop .at + 3 ≤ c .before .f .given .0 .1 .1 .0) × (c .before .f .given .0 .1 .0 ≤ c .before .f .given .0 .1 .1 .0) × (c .before .f .given .0 .1 .1 .0 ≤ length (c .before .before .before .before .before .before .before .args .file .now))
-lies c = bounds _ _ _ _ _ (stands _ _ _ _ _ _ (found c))
+-- it stands in the file
+it-stands : (c : tie.After-known-told Inv-loop μ-loop) → let l = to-turn c .before .loop in let w = c .before .f .given .0 in
+    Stands (to-start (to-turn c) .args .file .now) (l .at) (w .0) (w .1 .0) (w .1 .1 .0)
+it-stands c = stands _ _ _ _ _ _ (found c)
+
+-- ---- the needs
 
 loop-holds : tie.Need-loop-holds Inv-loop μ-loop
-loop-holds c =
-    (start-read _ _ _ _ _ refl refl (c .before .pre .1), refl)
+loop-holds c = (start-read _ _ _ _ _ refl refl (c .before .pre .1), refl)
 
 field-at-requires : tie.Need-field-at-requires Inv-loop μ-loop
-field-at-requires c κs =
-    search needs
+field-at-requires c κs = search needs
 
 enum-known-f : tie.Need-enum-known-f Inv-loop μ-loop
-enum-known-f c =
-    search needs
+enum-known-f c = search needs
 
 enum-told : tie.Need-enum-told Inv-loop μ-loop
-enum-told c =
-    search needs
+enum-told c = search needs
 
 refusal-of-requires : tie.Need-refusal-of-requires Inv-loop μ-loop
-refusal-of-requires c κs =
-    search needs
+refusal-of-requires c κs = search needs
 
 refused-requires : tie.Need-refused-requires Inv-loop μ-loop
-refused-requires c κs =
-    search needs
+refused-requires c κs = search needs
 
 returns : tie.Need-returns Inv-loop μ-loop
 returns c =
-    (field-same-no _ _ _ _ _ _ (c .before .before .before .before .before .before .loop .inv .0) _ _ _ _ (c .before .before .before .before .before .loop-test .taken) _ (sym (c .before .before .before .before .field-at .ensures) ∙ c .before .before .enum-told .given .1) (c .refused .ensures ∙ c .before .refusal-of .ensures ∙ ap refusalOf (c .before .before .enum-told .given .1)), c .before .before .before .before .before .before .loop .inv .1)
+    let t = c .before .before .before .before .before in
+    let i = t .before .loop .inv in
+    let e = c .before .before .enum-told .given .1 in
+    let at = sym (c .before .before .before .before .field-at .ensures) ∙ e in
+    let number = c .refused .ensures ∙ c .before .refusal-of .ensures ∙ ap refusalOf e in
+    (field-same-no (i .0) (t .loop-test .taken) _ _ _ _ _ at number, i .1)
 
 sub-take-field : tie.Need-sub-take-field Inv-loop μ-loop
-sub-take-field c =
-    lies c .1
+sub-take-field c = bounds _ _ _ _ _ (it-stands c) .1
 
 part-take-field-start : tie.Need-part-take-field-start Inv-loop μ-loop
-part-take-field-start c =
-    lies c .1
+part-take-field-start c = bounds _ _ _ _ _ (it-stands c) .1
 
 part-take-field-end : tie.Need-part-take-field-end Inv-loop μ-loop
-part-take-field-end c =
-    lies c .2
+part-take-field-end c = bounds _ _ _ _ _ (it-stands c) .2
 
 take-field-requires : tie.Need-take-field-requires Inv-loop μ-loop
 take-field-requires c κs =
-    let w = stands _ _ _ _ _ _ (found (c .before .before .before)) in let r = c .before .before .before .before .before .before .before .before .loop .inv .0 in let p = c .before .before .before .before .before .before .before .before .before .before .pre .0 in let l = c .before .before .before .before .before .before .before .loop-test .taken in (r .well, omega (arith, r .counted), r .held .few, omega arith, rw (w .tag-is, value-is _ _ _ _ _ w) (w .length-ok))
+    let f = c .before .before .before in
+    let w = it-stands f in
+    let t = to-turn f in
+    let r = t .before .loop .inv .0 in
+    let p = to-start t .pre .0 in
+    let l = t .loop-test .taken in
+    (omega (arith, r .counted), r .held .few, omega arith, rw (w .tag-is, value-is _ _ _ _ _ w) (w .length-ok))
 
 returns-2 : tie.Need-returns-2 Inv-loop μ-loop
 returns-2 c =
-    (value-same-no _ _ _ _ _ _ (c .before .before .before .before .before .before .before .before .before .before .before .loop .inv .0) _ _ _ _ (c .before .before .before .before .before .before .before .before .before .before .loop-test .taken) _ _ _ (found (c .before .before .before .before .before .before)) (c .before .before .take-field .ensures .0) (c .if1 .taken), c .before .before .take-field .ensures .1 ∙ c .before .before .before .before .before .before .before .before .before .before .before .loop .inv .1)
+    let v = c .before .before in
+    let f = to-field v in
+    let t = to-turn f in
+    let i = t .before .loop .inv in
+    let a = v .take-field .ensures in
+    (value-same-no (i .0) (t .loop-test .taken) _ _ _ _ _ _ _ (found f) (a .0) (c .if1 .taken), a .1 ∙ i .1)
 
 loop-less : tie.Need-loop-less Inv-loop μ-loop
 loop-less c =
-    let l = lies (c .before .before .before .before .before .before) in omega (arith, c .before .before .before .before .before .before .before .before .before .before .loop-test .taken)
+    let f = to-field (c .before .before) in
+    omega (arith, bounds _ _ _ _ _ (it-stands f), to-turn f .loop-test .taken)
 
 loop-again : tie.Need-loop-again Inv-loop μ-loop
 loop-again c =
-    (value-read _ _ _ _ _ _ (c .before .before .before .before .before .before .before .before .before .before .before .loop .inv .0) _ _ _ _ (c .before .before .before .before .before .before .before .before .before .before .loop-test .taken) _ _ _ (found (c .before .before .before .before .before .before)) (c .before .before .take-field .ensures .0) (c .if1 .left), c .before .before .take-field .ensures .1 ∙ c .before .before .before .before .before .before .before .before .before .before .before .loop .inv .1)
+    let v = c .before .before in
+    let f = to-field v in
+    let t = to-turn f in
+    let i = t .before .loop .inv in
+    let a = v .take-field .ensures in
+    (value-read (i .0) (t .loop-test .taken) _ _ _ _ _ _ _ (found f) (a .0) (c .if1 .left), a .1 ∙ i .1)
 
 returns-3 : tie.Need-returns-3 Inv-loop μ-loop
-returns-3 c =
-    (end-same _ _ _ _ _ _ (c .before .loop .inv .0) (c .loop-test .left), c .before .loop .inv .1)
+returns-3 c = let i = c .before .loop .inv in (end-same (i .0) (c .loop-test .left), i .1)
 
 pub read-fields-spec : {M : Type 1} → statement M
 read-fields-spec =

@@ -1,12 +1,68 @@
 -- `jobfile::take_need` meets its contract. Assumes nothing.
-use mathlib.Core.Path.{refl, sym, _∙_}
+use mathlib.Core.Path.{_≡_, refl, sym, ap, _∙_}
+use mathlib.Core.Bool.{true}
+use mathlib.Core.List.{List}
+use Prim.Native.Nat.{ℕ}
 use native.Mathlib.Omega.{arith}
 use borrow.Author.Tests.{not-true, not-false}
 use borrow.Author.Needs.{needs}
+use Rattle.rules.specs.Basics.{at}
+use Rattle.rules.specs.Fields.{refused}
+use Rattle.rules.specs.JobFile.{isJob}
+use Rattle.jobset.specs.Arrays.{giversIn, takersIn}
+use Rattle.jobfile.specs.declared.Counts.{Counts}
+use Rattle.jobfile.specs.Reading.{State, stateOf, answerOf, countedMore, takeNeed}
 use Rattle.jobfile.specs.NeedWays.{need-refused, need-taken, is-job-in, no-giver, no-taker, same-job, known-in, new-in}
-use Rattle.jobfile.specs.Reading.{stateOf}
 use Rattle.jobfile.proofs.take_need.Statement.{statement}
 use Rattle.jobfile.proofs.take_need.Tie as tie
+
+-- ---- the way back, and what is known on it
+
+-- from the test of the first number to where both are read, from that of the second to that of the first, and from that of both to that of the second
+abbrev to-numbers : tie.Else1 → tie.After-wide2
+to-numbers c = c .before .before
+
+abbrev to-first : tie.Else2 → tie.Else1
+to-first c = c .before .before
+
+abbrev to-second : tie.Else3 → tie.Else2
+to-second c = c .before
+
+-- what was handed over: counts, value, tables
+abbrev counts : tie.After-wide2 → Counts
+counts c = c .before .before .before .before .before .args .c
+
+abbrev value : tie.After-wide2 → List ℕ
+value c = c .before .before .before .before .before .args .v .now
+
+abbrev tables : tie.After-wide2 → List ℕ
+tables c = c .before .before .before .before .before .args .tables .now
+
+-- the two numbers
+abbrev giver : tie.After-wide2 → ℕ
+giver c = c .before .before .wide .result
+
+abbrev taker : tie.After-wide2 → ℕ
+taker c = c .wide2 .result
+
+-- what has been read before, with any offsets
+abbrev before : tie.After-wide2 → List ℕ → State
+before c o = stateOf (counts c) o (giversIn (tables c)) (takersIn (tables c))
+
+-- the numbers are those in the field: a refusal of them is a refusal of the field
+refuse : (c : tie.After-wide2) (o : List ℕ) (d : Counts) (g t : List ℕ) (q : ℕ) → takeNeed (before c o) (giver c) (taker c) ≡ refused q
+    → d .number ≡ q → (q ≡ 0 → ⊥) → answerOf d o g t ≡ takeNeed (before c o) (at (value c) 0) (at (value c) 1)
+refuse c o d g t q = need-refused (counts c) o _ _ _ _ _ _ (c .before .before .wide .ensures) (c .wide2 .ensures) d g t q
+
+-- the first is the number of a job
+giver-in : (c : tie.Else1) → isJob (counts (to-numbers c) .jobs) (giver (to-numbers c)) ≡ true
+giver-in c = sym (c .before .is-job .ensures) ∙ not-false _ (c .if1 .left)
+
+-- and so is the second
+taker-in : (c : tie.Else2) → isJob (counts (to-numbers (to-first c)) .jobs) (taker (to-numbers (to-first c))) ≡ true
+taker-in c = sym (c .before .is-job2 .ensures) ∙ not-false _ (c .if2 .left)
+
+-- ---- the needs
 
 shared-slice-read-wide : tie.Need-shared-slice-read-wide
 shared-slice-read-wide c = search needs
@@ -28,7 +84,9 @@ refused-requires c κs = search needs
 
 returns : tie.Need-returns
 returns c =
-    (λ o. need-refused (c .before .before .before .before .before .before .before .before .args .c) o _ _ _ _ _ _ (c .before .before .before .before .before .wide .ensures) (c .before .before .before .wide2 .ensures) _ _ _ 8 (no-giver (stateOf (c .before .before .before .before .before .before .before .before .args .c) o _ _) _ _ (sym (c .before .before .is-job .ensures) ∙ not-true _ (c .before .if1 .taken))) (c .refused .ensures) (λ e. omega arith), refl)
+    let n = c .before .before .before in
+    let none = sym (c .before .before .is-job .ensures) ∙ not-true _ (c .before .if1 .taken) in
+    (λ o. refuse n o _ _ _ 8 (no-giver (before n o) _ _ none) (c .refused .ensures) (λ z. omega arith), refl)
 
 is-job-requires-2 : tie.Need-is-job-requires-2
 is-job-requires-2 c κs = search needs
@@ -38,30 +96,33 @@ refused-requires-2 c κs = search needs
 
 returns-2 : tie.Need-returns-2
 returns-2 c =
-    (λ o. need-refused (c .before .before .before .before .before .before .before .before .before .before .args .c) o _ _ _ _ _ _ (c .before .before .before .before .before .before .before .wide .ensures) (c .before .before .before .before .before .wide2 .ensures) _ _ _ 8 (no-taker (stateOf (c .before .before .before .before .before .before .before .before .before .before .args .c) o _ _) _ _ (sym (c .before .before .before .before .is-job .ensures) ∙ not-false _ (c .before .before .before .if1 .left)) (sym (c .before .before .is-job2 .ensures) ∙ not-true _ (c .before .if2 .taken))) (c .refused2 .ensures) (λ e. omega arith), refl)
+    let first = c .before .before .before in
+    let n = to-numbers first in
+    let none = sym (c .before .before .is-job2 .ensures) ∙ not-true _ (c .before .if2 .taken) in
+    (λ o. refuse n o _ _ _ 8 (no-taker (before n o) _ _ (giver-in first) none) (c .refused2 .ensures) (λ z. omega arith), refl)
 
 refused-requires-3 : tie.Need-refused-requires-3
 refused-requires-3 c κs = search needs
 
 returns-3 : tie.Need-returns-3
 returns-3 c =
-    (λ o. need-refused (c .before .before .before .before .before .before .before .before .before .before .before .args .c) o _ _ _ _ _ _ (c .before .before .before .before .before .before .before .before .wide .ensures) (c .before .before .before .before .before .before .wide2 .ensures) _ _ _ 8 (same-job (stateOf (c .before .before .before .before .before .before .before .before .before .before .before .args .c) o _ _) _ _ (sym (c .before .before .before .before .before .is-job .ensures) ∙ not-false _ (c .before .before .before .before .if1 .left)) (sym (c .before .before .before .is-job2 .ensures) ∙ not-false _ (c .before .before .if2 .left)) (c .before .if3 .taken)) (c .refused3 .ensures) (λ e. omega arith), refl)
+    let second = c .before .before in
+    let first = to-first second in
+    let n = to-numbers first in
+    let same : giver n ≡ taker n = omega (arith, c .before .if3 .taken, is-job-in _ _ (giver-in first)) in
+    (λ o. refuse n o _ _ _ 8 (same-job (before n o) _ _ (giver-in first) (taker-in second) same) (c .refused3 .ensures) (λ z. omega arith), refl)
 
 sub-g : tie.Need-sub-g
-sub-g c =
-    let h = is-job-in _ _ (sym (c .before .before .before .before .is-job .ensures) ∙ not-false _ (c .before .before .before .if1 .left)) in omega arith
+sub-g c = let h = is-job-in _ _ (giver-in (c .before .before .before)) in omega arith
 
 sub-g-2 : tie.Need-sub-g-2
-sub-g-2 c =
-    let h = is-job-in _ _ (sym (c .before .before .before .before .is-job .ensures) ∙ not-false _ (c .before .before .before .if1 .left)) in omega arith
+sub-g-2 c = let h = is-job-in _ _ (giver-in (c .before .before .before)) in omega arith
 
 sub-k : tie.Need-sub-k
-sub-k c =
-    let h = is-job-in _ _ (sym (c .before .before .is-job2 .ensures) ∙ not-false _ (c .before .if2 .left)) in omega arith
+sub-k c = let h = is-job-in _ _ (taker-in (c .before)) in omega arith
 
 sub-k-2 : tie.Need-sub-k-2
-sub-k-2 c =
-    let h = is-job-in _ _ (sym (c .before .before .is-job2 .ensures) ∙ not-false _ (c .before .if2 .left)) in omega arith
+sub-k-2 c = let h = is-job-in _ _ (taker-in (c .before)) in omega arith
 
 mul-t18 : tie.Need-mul-t18
 mul-t18 c = search needs
@@ -77,7 +138,16 @@ refused-requires-4 c κs = search needs
 
 returns-4 : tie.Need-returns-4
 returns-4 c =
-    (λ o. need-refused (c .before .before .before .before .before .before .before .before .before .before .before .before .before .before .before .before .args .c) o _ _ _ _ _ _ (c .before .before .before .before .before .before .before .before .before .before .before .before .before .wide .ensures) (c .before .before .before .before .before .before .before .before .before .before .before .wide2 .ensures) _ _ _ 9 (known-in (c .before .before .before .before .before .before .before .before .before .before .before .before .before .before .before .before .args .c) o (c .before .before .before .before .before .before .before .before .before .before .before .before .before .before .before .before .args .tables .now) _ _ (sym (c .before .before .before .before .before .before .before .before .before .before .is-job .ensures) ∙ not-false _ (c .before .before .before .before .before .before .before .before .before .if1 .left)) (sym (c .before .before .before .before .before .before .before .before .is-job2 .ensures) ∙ not-false _ (c .before .before .before .before .before .before .before .if2 .left)) (c .before .before .before .before .before .before .if3 .left) _ (c .before .before .before .before .with .ensures) (c .before .if4 .taken)) (c .refused4 .ensures) (λ e. omega arith), refl)
+    let differ = c .before .before .before .before .before .before in
+    let second = to-second differ in
+    let first = to-first second in
+    let n = to-numbers first in
+    let with-giver = c .before .before .before .before .with .ensures in (
+      λ o. refuse n o _ _ _ 9
+          (known-in (counts n) o (tables n) _ _ (giver-in first) (taker-in second) (differ .if3 .left) _ with-giver (c .before .if4 .taken))
+          (c .refused4 .ensures) (λ z. omega arith),
+      refl,
+    )
 
 mul-tables : tie.Need-mul-tables
 mul-tables c = search needs
@@ -106,12 +176,22 @@ mul-tables-2 c = search needs
 element-write-tables-2 : tie.Need-element-write-tables-2
 element-write-tables-2 c = search needs
 
-add-t18-2 : tie.Need-add-t18-2
-add-t18-2 c = search needs
+counted-requires : tie.Need-counted-requires
+counted-requires c κs = search needs
 
 returns-5 : tie.Need-returns-5
+unfolding countedMore
 returns-5 c =
-    (λ o. need-taken (c .before .before .before .before .before .before .before .before .before .before .before .before .before .before .before .before .before .before .args .c) o _ _ _ _ _ _ (c .before .before .before .before .before .before .before .before .before .before .before .before .before .before .before .wide .ensures) (c .before .before .before .before .before .before .before .before .before .before .before .before .before .wide2 .ensures) _ _ _ _ (new-in (c .before .before .before .before .before .before .before .before .before .before .before .before .before .before .before .before .before .before .args .c) o (c .before .before .before .before .before .before .before .before .before .before .before .before .before .before .before .before .before .before .args .tables .now) _ _ (sym (c .before .before .before .before .before .before .before .before .before .before .before .before .is-job .ensures) ∙ not-false _ (c .before .before .before .before .before .before .before .before .before .before .before .if1 .left)) (sym (c .before .before .before .before .before .before .before .before .before .before .is-job2 .ensures) ∙ not-false _ (c .before .before .before .before .before .before .before .before .before .if2 .left)) (c .before .before .before .before .before .before .before .before .if3 .left) _ (c .before .before .before .before .before .before .with .ensures) (c .before .before .before .if4 .left)) refl (simp (c .before .before .before .before .before .before .with .ensures, c .before .with2 .ensures)), search needs)
+    let differ = c .before .before .before .before .before .before .before .before in
+    let second = to-second differ in
+    let first = to-first second in
+    let n = to-numbers first in
+    let with-giver = c .before .before .before .before .before .before .with .ensures in (
+      λ o. need-taken (counts n) o _ _ _ _ _ _ (n .before .before .wide .ensures) (n .wide2 .ensures) _ _ _ _
+          (new-in (counts n) o (tables n) _ _ (giver-in first) (taker-in second) (differ .if3 .left) _ with-giver (c .before .before .before .if4 .left))
+          (ap (λ (x : Counts). x .number) (c .counted .ensures)) (simp (c .counted .ensures, with-giver, c .before .with2 .ensures)),
+      search needs,
+    )
 
 pub take-need-spec : {M : Type 1} → statement M
 take-need-spec =
@@ -147,5 +227,5 @@ take-need-spec =
     add-tables
     mul-tables-2
     element-write-tables-2
-    add-t18-2
+    counted-requires
     returns-5)

@@ -25,9 +25,6 @@ abbrev μ-loop : tie.MeasureT-loop
 found : (c : tie.After-known-told Inv-loop μ-loop) → rowAnswer (c .before .before .before .before .before .before .before .before .before .before .args .table .now) (c .before .before .before .before .before .before .loop .at) ≡ Row (c .before .end .given .0 .0)
 found c = sym (c .before .before .before .row-at .ensures) ∙ c .before .end .given .1
 
-lies : (c : tie.After-known-told Inv-loop μ-loop) → (c .before .before .before .before .before .before .loop .count < 64) × (c .before .before .before .before .before .before .loop .at < 65536) × (c .before .before .before .before .before .before .loop .at + 4 < length (c .before .before .before .before .before .before .before .before .before .before .args .table .now)) × (c .before .before .before .before .before .before .loop .at < c .before .end .given .0 .0)
-lies c = row-in _ _ _ _ _ _ (c .before .before .before .before .before .before .loop .inv) (c .before .before .before .before .before .loop-test .taken) _ (found c) (c .before .before .before .before .if2 .left)
-
 head-ok-requires : tie.Need-head-ok-requires Inv-loop μ-loop
 head-ok-requires c κs =
     search needs
@@ -71,6 +68,15 @@ refused-requires-3 c κs =
 returns-3 : tie.Need-returns-3 Inv-loop μ-loop
 returns-3 c =
     refused-read _ _ (c .refused3 .ensures) (refuses _ _ _ _ _ _ (c .before .before .before .before .before .before .loop .inv) (c .before .before .before .before .before .loop-test .taken) (sym (c .before .before .before .row-at .ensures) ∙ c .before .enum-told .given .1))
+
+-- the row that is found lies in the table, and is one of at most 64
+lies : (c : tie.After-known-told Inv-loop μ-loop) →
+    let l = c .before .before .before .before .before .before .loop in
+    let bs = c .before .before .before .before .before .before .before .before .before .before .args .table .now in
+    (l .count < 64) × (l .at < 65536) × (l .at + 4 < length bs) × (l .at < c .before .end .given .0 .0)
+lies c =
+    let l = c .before .before .before .before .before .before .loop in
+    row-in _ _ _ _ _ _ (l .inv) (c .before .before .before .before .before .loop-test .taken) _ (found c) (c .before .before .before .before .if2 .left)
 
 cast-offset : tie.Need-cast-offset Inv-loop μ-loop
 cast-offset c =

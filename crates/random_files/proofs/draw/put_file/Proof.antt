@@ -5,12 +5,15 @@ use Rattle.random_files.proofs.draw.put_file.Statement.{statement}
 use Rattle.random_files.proofs.draw.put_file.Tie as tie
 
 abbrev Inv-loop : tie.InvT-loop
-Inv-loop file₀ sizes needs first at₀ k₀ file at k =
+Inv-loop file₀ sizes extras needs first at₀ k₀ file at k =
     k ≤ 25
 
 abbrev μ-loop : tie.MeasureT-loop
-μ-loop file₀ sizes needs first at₀ k₀ file at k =
+μ-loop file₀ sizes extras needs first at₀ k₀ file at k =
     25 - k
+
+add-put-jobs : tie.Need-add-put-jobs Inv-loop μ-loop
+add-put-jobs c = search needs
 
 put-jobs-requires : tie.Need-put-jobs-requires Inv-loop μ-loop
 put-jobs-requires c κs = search needs
@@ -42,6 +45,7 @@ put-file-spec =
     (tie.spec
     Inv-loop
     μ-loop
+    add-put-jobs
     put-jobs-requires
     loop-holds
     add-put-if

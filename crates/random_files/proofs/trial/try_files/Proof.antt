@@ -5,11 +5,11 @@ use Rattle.random_files.proofs.trial.try_files.Statement.{statement}
 use Rattle.random_files.proofs.trial.try_files.Tie as tie
 
 abbrev Inv-loop : tie.InvT-loop
-Inv-loop work₀ counts₀ seed₀ i₀ work counts seed i =
+Inv-loop counts₀ seed₀ i₀ counts seed i =
     Unit {0}
 
 abbrev μ-loop : tie.MeasureT-loop
-μ-loop work₀ counts₀ seed₀ i₀ work counts seed i =
+μ-loop counts₀ seed₀ i₀ counts seed i =
     5000 - i
 
 loop-holds : tie.Need-loop-holds Inv-loop μ-loop
