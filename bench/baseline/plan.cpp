@@ -1,6 +1,7 @@
 // The rest of the call: reading a job file, circles, windows and width, boards, the table.
 #include "baseline.h"
 #include <algorithm>
+#include <cstdlib>
 #include <cstring>
 
 namespace {
@@ -161,6 +162,12 @@ unsigned place_boards(const Tables &t, unsigned jobs, const Found &found, uint8_
     return most + 1;
 }
 
+// The nearest centimetre; a half goes to the even neighbour.
+inline int half_even(int mm) {
+    const int whole = mm / 10, rest = mm % 10, away = mm < 0 ? -1 : 1;
+    return 2 * abs(rest) + abs(whole % 2) > 10 ? whole + away : whole;
+}
+
 size_t write_table(const uint8_t *file, const Jobs &jobs, const Found &found, const uint8_t *boards, unsigned count, uint8_t *table) {
     const uint8_t head[] = {16, 3, 0, 1, uint8_t(found.slots), uint8_t(count)};
     memcpy(table, head, sizeof head);
@@ -168,7 +175,7 @@ size_t write_table(const uint8_t *file, const Jobs &jobs, const Found &found, co
     for (unsigned job = 0; job < jobs.jobs; ++job) {
         const uint8_t *field = file + jobs.offsets[job];
         const unsigned length = field[1];
-        const int mm = int16_t(field[3] | field[4] << 8), cm = (mm + (mm < 0 ? -5 : 5)) / 10;
+        const int mm = int16_t(field[3] | field[4] << 8), cm = half_even(mm);
         const uint8_t fixed[] = {17, uint8_t(length + 2), 0, found.starts[63 - job], uint8_t(boards[63 - job] + 1), uint8_t(cm), uint8_t(cm >> 8)};
         memcpy(to, fixed, sizeof fixed);
         to += sizeof fixed;

@@ -1,5 +1,5 @@
 //! The cases that document 01 names, with their answers written out, and others whose answer its text settles, or that
-//! of requests 5, 12, 13 and 14 in document 02.
+//! of requests 4, 5, 12, 13 and 14 in document 02.
 
 use crate::generate::drafts::{boards_field, field, job_field, need_field, Draft};
 use crate::reference::entries::table_of;
@@ -7,7 +7,7 @@ use crate::reference::implied::implied_needs;
 use crate::reference::needs::Graph;
 use crate::reference::reading::read;
 use crate::reference::small::small_gates;
-use crate::reference::table::{Row, Table};
+use crate::reference::table::{half_away, Row, Table};
 use crate::reference::text::{printed, printed_gates, printed_needs};
 use crate::report::{shown, Of};
 use crate::tester::Tester;
@@ -51,6 +51,8 @@ pub fn run(tester: &mut Tester) {
     printed_example(tester);
     checked(tester);
     checked_with_most_boards(tester);
+    rounded(tester);
+    every_level(tester);
     looked_up(tester);
 }
 
@@ -376,6 +378,60 @@ fn checked_with_most_boards(tester: &mut Tester) {
     }
     let twice = [draft.bytes(), boards_field(3), boards_field(3)].concat();
     checks(tester, "most boards twice comes before the table", &twice, &[], Err(21));
+}
+
+/// A job with each of these levels in millimetres: the centimetres of its planned table, and what the check says of that
+/// table and of the one from before request 4.
+fn rounded(tester: &mut Tester) {
+    let cases: [(i16, i16, Passes); 18] = [
+        (25, 2, Err(15)),
+        (35, 4, Ok(())),
+        (-25, -2, Err(15)),
+        (-35, -4, Ok(())),
+        (15, 2, Ok(())),
+        (-15, -2, Ok(())),
+        (5, 0, Err(15)),
+        (-5, 0, Err(15)),
+        (4, 0, Ok(())),
+        (6, 1, Ok(())),
+        (45, 4, Err(15)),
+        (24, 2, Ok(())),
+        (26, 3, Ok(())),
+        (32755, 3276, Ok(())),
+        (32765, 3276, Err(15)),
+        (-32765, -3276, Err(15)),
+        (32767, 3277, Ok(())),
+        (-32768, -3277, Ok(())),
+    ];
+    for (level, centimetres, before) in cases {
+        let name = format!("{level} millimetres");
+        let file = Draft { jobs: vec![(level, b"a".to_vec())], ..Draft::plain(1, 1, &[]) }.bytes();
+        let table =
+            |level| Table { slots: 1, boards: 1, rows: vec![Row { start: 0, board: 1, level, name: b"a".to_vec() }] };
+        tester.label = name.clone();
+        let found = tester.plan("named: plan", &file);
+        let right = found == Ok(table(centimetres).bytes());
+        let verdict = if right { Ok(()) } else { Err(format!("{found:?}")) };
+        tester.report.case(Of::Answer, "named: the planner's answer", verdict, || name.clone());
+        checks(tester, &name, &file, &table(centimetres).bytes(), Ok(()));
+        checks(tester, &format!("{name}, a table from before"), &file, &table(half_away(level)).bytes(), before);
+    }
+}
+
+/// Every level that two bytes hold, eight in a file: its table, and the check of that and of the one from before request 4.
+fn every_level(tester: &mut Tester) {
+    for first in (i16::MIN..=i16::MAX).step_by(8) {
+        let plain = Draft::plain(1, 8, &[]);
+        let jobs = plain.jobs.iter().zip(first..=first + 7).map(|((_, name), level)| (level, name.clone())).collect();
+        let file = Draft { jobs, ..plain }.bytes();
+        tester.label = format!("levels from {first}");
+        let planned = tester.plan("named: every level", &file).unwrap_or_default();
+        let _ = tester.check("named: every level", &file, &planned);
+        if let Some(mut table) = Table::read(&planned) {
+            table.rows.iter_mut().zip(first..=first + 7).for_each(|(row, level)| row.level = half_away(level));
+            let _ = tester.check("named: every level", &file, &table.bytes());
+        }
+    }
 }
 
 /// What check and lookup answer.

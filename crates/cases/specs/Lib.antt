@@ -1,5 +1,5 @@
 -- The cases of document 01, "Gates on paper": what a case is and when it holds, two ways to prove one, and the table with its theorem; examples
--- of extra jobs behind a gate's (document 02, request 12) and of needs that follow from others (request 5).
+-- of extra jobs behind a gate's (document 02, request 12), of needs that follow from others (request 5) and of levels (request 4).
 pub mod Case
 pub mod Searched
 pub mod Others
@@ -8,3 +8,4 @@ pub mod Chains
 pub mod Cases
 pub mod Extras
 pub mod Implied
+pub mod Levels

@@ -1,16 +1,15 @@
--- Two-byte numbers, two's complement and rounding. Assumes nothing.
+-- Two-byte numbers and two's complement. Assumes nothing.
 use mathlib.Core.Path.{_≡_, refl, ap, subst}
 use mathlib.Core.Logic.{_↔_}
 use mathlib.Core.Bool.{Bool, true, false}
 use mathlib.Core.List.{List, [], _∷_, _++_}
-use Prim.Native.Nat.{ℕ, zero, suc, _+_, _-_, _*_, _/_, _≤_, _<_}
+use Prim.Native.Nat.{ℕ, zero, suc, _-_, _≤_, _<_}
 use native.Mathlib.Omega.{arith}
 use lib.ListN.{take, drop}
 use lib.Dec.{T, ltb, ltb→lt, lt→ltb}
-use lib.Signed.{_≤ℤ_}
-use lib.IntN.{ℤ, pos, negsuc, negℤ, natAbs}
+use lib.IntN.{ℤ, pos, negsuc}
 use Rattle.rules.specs.Basics.{choose, at}
-use Rattle.rules.specs.Numbers.{Bytes, word, low, high, signed, unsigned, InRange, eqℤ, centimetres}
+use Rattle.rules.specs.Numbers.{Bytes, word, low, high, signed, unsigned, InRange, eqℤ}
 use Rattle.laws.specs.Tests.{tests}
 
 -- ---- bytes
@@ -95,33 +94,3 @@ eqℤ-same (negsuc m) (negsuc n) h = let w = simp tests at h in ap negsuc (omega
 
 pub T-eqℤ : (a b : ℤ) → T (eqℤ a b) ↔ (a ≡ b)
 T-eqℤ a b = (eqℤ-same a b, λ e. subst (λ (z : ℤ). T (eqℤ a z)) e (eqℤ-refl a))
-
--- ---- the nearest centimetre
-
--- the centimetres lie within 5 mm, and at just 5 mm they are the farther ones from zero
-pub centimetres-near : (z : ℤ) → (10 * natAbs (centimetres z) ≤ natAbs z + 5) × (natAbs z + 5 < 10 * natAbs (centimetres z) + 10)
-unfolding centimetres
-centimetres-near (pos m) = omega arith
-centimetres-near (negsuc m) = go ((suc m + 5) / 10) refl
-  where
-    go : (c : ℕ) → c ≡ (suc m + 5) / 10 → (10 * natAbs (negℤ (pos c)) ≤ suc m + 5) × (suc m + 5 < 10 * natAbs (negℤ (pos c)) + 10)
-    go zero e = omega arith
-    go (suc c) e = omega arith
-
--- and they lie on the same side of zero
-pub centimetres-side : (m : ℕ) → (pos 0 ≤ℤ centimetres (pos m)) × (centimetres (negsuc m) ≤ℤ pos 0)
-unfolding centimetres
-centimetres-side m = (record { le = simp tests (omega arith) }, go ((suc m + 5) / 10))
-  where
-    go : (c : ℕ) → negℤ (pos c) ≤ℤ pos 0
-    go zero = record { le = simp tests (omega arith) }
-    go (suc c) = record { le = tt }
-
-pub centimetres-in : (z : ℤ) → InRange z → InRange (centimetres z)
-unfolding centimetres
-centimetres-in (pos m) h = omega arith
-centimetres-in (negsuc m) h = go ((suc m + 5) / 10) refl
-  where
-    go : (c : ℕ) → c ≡ (suc m + 5) / 10 → InRange (negℤ (pos c))
-    go zero e = omega arith
-    go (suc c) e = omega arith

@@ -21,6 +21,7 @@ use Rattle.rules.specs.Table.{Row, Table, starts, boardsOf, encode, decode}
 use Rattle.rules.specs.Answers.{tableOf, tabled, planTable}
 use Rattle.laws.specs.Tests.{T-leb, T-eqb}
 use Rattle.laws.specs.Lists.{tabulate-at, length-tabulate, map-tabulate-list}
+use Rattle.laws.specs.Rounding.{rounds-exactly}
 use Rattle.laws.specs.Fields.{ask-yes, ask-no}
 use Rattle.laws.specs.JobFile.{Readable, needs-in}
 use Rattle.laws.specs.Program.{slots-fits, program-is}
@@ -167,7 +168,8 @@ module _ (f : JobFile) (ok : Readable f) where
         rows-are = rows-count;
         labels = record {
           names = λ i h. ap (λ (r : Row). r .name) (tabulate-at _ (length (f .jobs)) 0 i _ h) ∙ ap (λ (j : ℕ). nthJob (f .jobs) j .name) (omega arith);
-          levels = λ i h. ap (λ (r : Row). r .level) (tabulate-at _ (length (f .jobs)) 0 i _ h) ∙ ap (λ (j : ℕ). centimetres (nthJob (f .jobs) j .level)) (omega arith);
+          levels = λ i h. rounds-exactly (nthJob (f .jobs) i .level) _ .1
+              (ap (λ (r : Row). r .level) (tabulate-at _ (length (f .jobs)) 0 i _ h) ∙ ap (λ (j : ℕ). centimetres (nthJob (f .jobs) j .level)) (omega arith));
         };
         satisfies = subst (SatisfiesP (length (f .jobs)) (f .needs) (f .limit)) (sym starts-are) in-limit;
         capped = subst (Capped (length (f .jobs)) (mostBoards f)) (sym starts-are) (short .capped);

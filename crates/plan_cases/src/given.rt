@@ -1,4 +1,4 @@
-// The cases of document 01 whose files are given by their bytes (tag 9 as document 02, request 13, has it), and files for the refusals that it names no case of.
+// The cases of document 01 whose files are given by their bytes (tag 9 as document 02, request 13, has it), exact halves of a centimetre (request 4), and files for the refusals that it names no case of.
 use crate::answers::plan;
 use crate::answers::plan_bytes;
 use crate::answers::plan_short_table;
@@ -12,6 +12,14 @@ fn example() {
     plan_bytes(b"its table", file);
     plan_short_work(b"1 a working buffer of 65535", file);
     plan_short_table(b"1 a table buffer of 1221", file);
+}
+
+// Limit 1; jobs a to h, each with an exact half of a centimetre: 25, 35, -25, 15, 5, -5, 45 and -15 millimetres.
+fn halves() {
+    let file =
+        b"\x01\x01\x00\x01\x02\x01\x00\x01\x03\x03\x00\x19\x00a\x03\x03\x00\x23\x00b\x03\x03\x00\xe7\xffc\x03\x03\x00\x0f\x00d\x03\x03\x00\x05\x00e\x03\x03\x00\xfb\xfff\x03\x03\x00\x2d\x00g\x03\x03\x00\xf1\xffh";
+    plan(b"exact halves", file);
+    plan_bytes(b"its table", file);
 }
 
 fn first_fields() {
@@ -67,6 +75,7 @@ fn too_long() {
 
 pub(crate) fn all() {
     example();
+    halves();
     first_fields();
     later_fields();
     longest();

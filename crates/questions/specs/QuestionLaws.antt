@@ -17,7 +17,8 @@ use Rattle.rules.specs.Program.{slots}
 use Rattle.rules.specs.Table.{rowOf, sameName, apartb, needsKept}
 use Rattle.laws.specs.Tests.{tests, bool-ext, T-eqb}
 use Rattle.laws.specs.Counting.{range-below}
-use Rattle.laws.specs.Numbers.{split-word, unsigned-signed, signed-unsigned, T-eqℤ, centimetres-in}
+use Rattle.laws.specs.Numbers.{split-word, unsigned-signed, signed-unsigned, T-eqℤ}
+use Rattle.laws.specs.Rounding.{centimetres-in}
 use Rattle.laws.specs.Program.{gives-is}
 use Rattle.jobset.specs.Sets.{member, setAt}
 use Rattle.jobset.specs.Arrays.{GiversAre}

@@ -1,4 +1,4 @@
-// The check on the job file of document 01's example and its table, with bytes of the table changed.
+// The check on the job file of document 01's example and its table, with bytes of the table changed, and of a level in the file.
 use libc::STDOUT_FILENO;
 
 // Needs 1-3, 2-3, limit 3.
@@ -175,6 +175,35 @@ fn sizes() {
     two(b"boards 2 to 7 unused", 18, 8, 5, 8);
 }
 
+// The example with another level of job 1, and a table with other centimetres for it: low and high byte of each.
+fn level(label: &[u8], low: u8, high: u8, row_low: u8, row_high: u8) {
+    let mut file = FILE;
+    let mut table = TABLE;
+    file[11] = low;
+    file[12] = high;
+    table[11] = row_low;
+    table[12] = row_high;
+    show(label, gate::gate_check(&file, &table));
+}
+
+// Exact halves to the even neighbour, and to the other one.
+fn halves() {
+    level(b"25 as 2", 25, 0, 2, 0);
+    level(b"15 25 as 3", 25, 0, 3, 0);
+    level(b"35 as 4", 35, 0, 4, 0);
+    level(b"15 35 as 3", 35, 0, 3, 0);
+    level(b"-25 as -2", 231, 255, 254, 255);
+    level(b"15 -25 as -3", 231, 255, 253, 255);
+    level(b"5 as 0", 5, 0, 0, 0);
+    level(b"15 5 as 1", 5, 0, 1, 0);
+    level(b"-5 as 0", 251, 255, 0, 0);
+    level(b"15 -5 as -1", 251, 255, 255, 255);
+    level(b"45 as 4", 45, 0, 4, 0);
+    level(b"15 45 as 5", 45, 0, 5, 0);
+    level(b"-35 as -4", 221, 255, 252, 255);
+    level(b"15 -35 as -3", 221, 255, 253, 255);
+}
+
 fn cells() {
     two(b"17 one slot and board", 18, 1, 5, 1);
     two(b"18 the next slot on another board", 25, 1, 4, 2);
@@ -250,6 +279,7 @@ pub(crate) fn all() {
     check(b"the example", &TABLE);
     decoding();
     sizes();
+    halves();
     cells();
     takers();
     files();

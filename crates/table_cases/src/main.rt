@@ -1,4 +1,4 @@
-// The cases of document 01 that name the check or the lookup, and those of tag 9 (document 02, request 13): a line for each, with the
+// The cases of document 01 that name the check or the lookup, and those of levels and of tag 9 (document 02, requests 4 and 13): a line for each, with the
 // number that the form for C gives.
 mod checked;
 mod long;

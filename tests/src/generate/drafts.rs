@@ -129,12 +129,13 @@ pub fn boards(random: &mut Random) -> Option<u8> {
 
 /// A level, often one at which rounding turns or a byte ends.
 pub fn level(random: &mut Random) -> i16 {
-    match random.below(4) {
+    match random.below(5) {
         0 => random.pick(&[
             0, 4, 5, 6, 14, 15, 16, -4, -5, -6, -14, -15, -16, 255, 256, -255, -256, 32764, 32765, 32767, -32765,
             -32768,
         ]),
         1 => random.between(0, 4000) as i16 - 2000,
+        2 => 10 * (random.between(0, 6552) as i16 - 3276) + 5,
         _ => random.word() as i16,
     }
 }

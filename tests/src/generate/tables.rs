@@ -5,7 +5,7 @@ use super::random::Random;
 use crate::reference::entries::table_of;
 use crate::reference::needs::Graph;
 use crate::reference::reading::JobFile;
-use crate::reference::table::Table;
+use crate::reference::table::{half_away, Table};
 
 /// Any table that keeps the rules, seldom the shortest, on any boards; none where luck or the limit does not allow it.
 pub fn valid(random: &mut Random, file: &JobFile) -> Option<Table> {
@@ -40,7 +40,7 @@ pub fn broken(random: &mut Random, file: &JobFile, table: &Table) -> Vec<u8> {
     let mut table = table.clone();
     match random.below(5) {
         0 => return broken_fields(random, &table),
-        1 => other_jobs(random, &mut table),
+        1 => other_jobs(random, file, &mut table),
         2 => wrong_counts(random, file, &mut table),
         3 => shared_place(random, &mut table),
         _ => broken_need(random, file, &mut table),
@@ -75,10 +75,10 @@ fn broken_fields(random: &mut Random, table: &Table) -> Vec<u8> {
     table.bytes()
 }
 
-/// Question 15: another name or level.
-fn other_jobs(random: &mut Random, table: &mut Table) {
+/// Question 15: another name or level, or levels from before request 4.
+fn other_jobs(random: &mut Random, file: &JobFile, table: &mut Table) {
     let (row, other) = (random.below(table.rows.len()), random.below(table.rows.len()));
-    match random.below(6) {
+    match random.below(7) {
         0 => table.rows[row].level = table.rows[row].level.wrapping_add(random.pick(&[1, -1, 256, 10])),
         1 => table.rows[row].level = table.rows[row].level.wrapping_neg(),
         2 => {
@@ -87,6 +87,7 @@ fn other_jobs(random: &mut Random, table: &mut Table) {
         }
         3 => table.rows[row].name.push(b'x'),
         4 => drop(table.rows[row].name.pop()),
+        5 => table.rows.iter_mut().zip(&file.jobs).for_each(|(row, job)| row.level = half_away(job.level)),
         _ => table.rows.swap(row, other),
     }
 }

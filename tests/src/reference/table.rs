@@ -22,8 +22,15 @@ pub struct Table {
 
 pub const LONGEST_TABLE: usize = 1_222;
 
-/// Millimetres to the nearest centimetre, a half away from zero.
+/// Millimetres to the nearest centimetre, of two nearest the even one: the first by distance, then even before odd.
 pub fn centimetres(millimetres: i16) -> i16 {
+    let wide = millimetres as i32;
+    let close = (wide / 10 - 1)..=(wide / 10 + 1);
+    close.min_by_key(|c| ((wide - 10 * c).abs(), c % 2 != 0)).expect("three numbers") as i16
+}
+
+/// As document 01 had it: a half away from zero. Tables made before request 4 have these levels.
+pub fn half_away(millimetres: i16) -> i16 {
     let wide = millimetres as i32;
     ((wide.abs() + 5) / 10 * wide.signum()) as i16
 }
