@@ -112,7 +112,7 @@ module _ (file : List ℕ) (bytes : Bytes file) (f : JobFile) (read : readFile f
           let is-q : numberOf (check file table) ≡ q = rw (check-asks file bytes f read no-circle table, d) refl in
           absurd (omega (arith, e, is-14, is-q))
 
-  -- of a table from before it answers 15 exactly where a level is a half whose neighbour toward zero is even
+  -- of a table with a row for each job, labelled as before, it answers 15 exactly where some job's level is a half whose neighbour toward zero is even
   pub checks-before : (t : Table) → decode (eqb n) table ≡ got t → LabelledBefore n (f .jobs) (t .rows)
       → (numberOf (check file table) ≡ 15) ↔ ((i : ℕ) × (i < n) × (natAbs (nthJob (f .jobs) i .level) % 20 ≡ 5))
   checks-before t decoded old = (λ e. found (asked-15 t decoded .0 e), λ w. asked-15 t decoded .1 (λ k. not-moved (w .0) (w .1) k (w .2)))

@@ -67,7 +67,7 @@ near m =
     (λ t. let more = simp tests at t in record { low = omega arith; high = omega arith; even = inr (omega arith) })
     (λ n. let no-more = simp tests at n in record { low = omega arith; high = omega arith; even = inl (omega arith) }))
 
--- so the centimetres are no more than this
+-- so ten times the centimetres are at most the millimetres and 5
 pub rounded-low : (m : ℕ) → 10 * roundHalfEven m ≤ m + 5
 rounded-low m = near m .low
 
@@ -128,7 +128,7 @@ rounds-minus z c r = record {
     other : (d : ℤ) → roundingError (negℤ z) d ≡ roundingError z (negℤ d)
     other d = ap (roundingError (negℤ z)) (sym (negℤ-negℤ d)) ∙ error-minus z (negℤ d)
 
--- in words and by computing
+-- z rounds to c, in words, exactly where c is what is computed
 pub rounds-exactly : (z c : ℤ) → RoundsTo z c ↔ (c ≡ centimetres z)
 unfolding centimetres
 rounds-exactly (pos m) c = (above-only m (roundHalfEven m) (near m) c, λ e. rw e (above-rounds m (roundHalfEven m) (near m)))

@@ -10,7 +10,7 @@ use Rattle.rules.specs.Numbers.{signed, unsigned, roundHalfEven, centimetres}
 use Rattle.laws.specs.Tests.{tests, by-choice}
 use Rattle.laws.specs.Rounding.{rounded-low}
 
--- c is the nearest, if it is the lower neighbour below a half, the upper one above it, and the even one at it
+-- m rounds to c, if c is the lower neighbour below a half, the upper one above it, and the even one at it
 pub by-rest : (m c : ℕ) → (m % 10 < 5 → c ≡ m / 10) → (5 < m % 10 → c ≡ m / 10 + 1) → (m % 10 ≡ 5 → c ≡ m / 10 + m / 10 % 2) → c ≡ roundHalfEven m
 unfolding roundHalfEven
 by-rest m c down up half =

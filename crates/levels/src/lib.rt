@@ -40,7 +40,7 @@ fn minus(number: u32) -> u16
     ((MODULUS - number % MODULUS) % MODULUS) as u16
 }
 
-// The nearest centimetre of a level in millimetres; what is below zero is rounded as what is as far above it.
+// The nearest centimetre of a level in millimetres; a half goes to the even neighbour, and minus a level gives minus what the level gives.
 pub fn centimetres(level: u16) -> u16
     ensures { λ r. ⌜ r ≡ rounded level ⌝ }
 {
