@@ -54,8 +54,6 @@ unsigned read_fields(const uint8_t *file, size_t size, Jobs &out) {
             const unsigned giver = value[0], taker = value[1];
             if (giver < 1 || giver > out.jobs || taker < 1 || taker > out.jobs || giver == taker)
                 return 8;
-            if (t.givers[64 - taker] & bit(64 - giver))
-                return 9;
             t.givers[64 - taker] |= bit(64 - giver);
             t.takers[64 - giver] |= bit(64 - taker);
             break;

@@ -1,12 +1,12 @@
 //! The generated cases. Each index of a seed gives one file, always the same one, and what is tried with it.
 
-use crate::generate::drafts::{self, boards_field, Draft};
+use crate::generate::drafts::{self, boards_field, field, Draft};
 use crate::generate::random::Random;
 use crate::generate::{damage, grown, hard, limits, shapes, tables};
 use crate::reference::implied::{self, implied_needs};
 use crate::reference::lists;
 use crate::reference::needs::Graph;
-use crate::reference::reading::{read, JobFile, LONGEST_FILE, MOST_BOARDS};
+use crate::reference::reading::{read, take_field, JobFile, LONGEST_FILE, MOST_BOARDS};
 use crate::reference::search;
 use crate::reference::small::small_gates;
 use crate::reference::table::Table;
@@ -23,7 +23,7 @@ const RARE: u64 = 1_000;
 pub fn run(tester: &mut Tester, seed: u64, index: u64) {
     tester.random = Random::new(seed, index);
     tester.label = format!("seed {seed} index {index}");
-    match index % 22 {
+    match index % 23 {
         0..=7 => sound(tester),
         8 => eight_boards(tester),
         9..=11 => small(tester),
@@ -33,6 +33,7 @@ pub fn run(tester: &mut Tester, seed: u64, index: u64) {
         18 => lengths(tester),
         19 => extra_jobs(tester),
         20 => grown_files(tester),
+        21 => repeated_needs(tester),
         _ => many_tables(tester),
     }
     if index % RARE == 0 {
@@ -151,23 +152,71 @@ fn grown_files(tester: &mut Tester) {
     }
 }
 
+/// Files with needs given twice, sound or damaged, and the same files with a comment as long in place of each later field:
+/// planner and check answer the same, byte for byte.
+fn repeated_needs(tester: &mut Tester) {
+    let draft = Draft::sound(&mut tester.random, 64).with_copies(&mut tester.random);
+    let file = match tester.random.below(4) {
+        0 => damage::fields(&mut tester.random, &draft),
+        _ => draft.mixed_bytes(&mut tester.random),
+    };
+    let (commented, count) = repeats_as_comments(&mut tester.random, &file);
+    tester.report.count("a need twice: fields".to_string(), count);
+    let planned = tester.plan("plan: a need twice", &file);
+    let without = tester.plan("plan: comments for needs given twice", &commented);
+    let kind = planned.as_ref().map_or_else(|number| format!("both refused {number}"), |_| "same table".to_string());
+    repeated_case(tester, "a need twice", kind, agree(&without, &planned), &file);
+    let needs = read(&file).map_or(Vec::new(), |read| read.needs);
+    let tables = match needs.is_empty() {
+        true => vec![some_table(&draft)],
+        false => drawn_tables(&mut tester.random, &file, needs, planned.ok()),
+    };
+    for table in tables {
+        let checked = tester.check("check: a need twice", &file, &table);
+        let without = tester.check("check: comments for needs given twice", &commented, &table);
+        let kind = checked.map_or_else(|number| format!("both refused {number}"), |()| "both pass".to_string());
+        repeated_case(tester, "a need twice, the check", kind, agree(&without, &checked), &file);
+    }
+}
+
+/// Counts what both files got, where they agree.
+fn repeated_case(tester: &mut Tester, group: &'static str, kind: String, verdict: Verdict, file: &[u8]) {
+    if verdict.is_ok() {
+        tester.report.answer(group, kind);
+    }
+    file_case(tester, Of::Answer, group, verdict, file);
+}
+
+/// The bytes with a comment of any two bytes in place of each need field whose pair was in one before; and how many.
+fn repeats_as_comments(random: &mut Random, file: &[u8]) -> (Vec<u8>, u64) {
+    let (mut kept, mut rest, mut pairs, mut count) = (Vec::new(), file, Vec::new(), 0);
+    while let Some((tag, value, behind)) = take_field(rest) {
+        if tag == 4 && value.len() == 2 && pairs.contains(&value) {
+            kept.extend(field(5, &random.bytes(2)));
+            count += 1;
+        } else {
+            kept.extend(&rest[..rest.len() - behind.len()]);
+        }
+        if tag == 4 {
+            pairs.push(value);
+        }
+        rest = behind;
+    }
+    kept.extend(rest);
+    (kept, count)
+}
+
 /// The needs of a sound file that follow from others, found in two ways by the reference. Without them none is left, and
 /// its windows and width are the same.
 fn try_list(tester: &mut Tester, file: &[u8]) -> Vec<(usize, usize)> {
     let read_file = read(file).expect("a sound file");
     let implied = implied_needs(file).expect("a file without a circle");
     let searched = implied::by_search(read_file.jobs.len(), &read_file.needs);
-    striking_case(tester, Of::Reference, "reference: closure and search", agree(&implied, &searched), file);
+    file_case(tester, Of::Reference, "reference: closure and search", agree(&implied, &searched), file);
     let struck = implied::struck(file, &implied);
-    striking_case(
-        tester,
-        Of::Reference,
-        "reference: none is left",
-        agree(&implied_needs(&struck), &Ok(Vec::new())),
-        file,
-    );
+    file_case(tester, Of::Reference, "reference: none is left", agree(&implied_needs(&struck), &Ok(Vec::new())), file);
     let windows = agree(&read(&struck).map(|struck| windows_and_width(&struck)), &Ok(windows_and_width(&read_file)));
-    striking_case(tester, Of::Reference, "reference: windows and width", windows, file);
+    file_case(tester, Of::Reference, "reference: windows and width", windows, file);
     implied
 }
 
@@ -183,11 +232,11 @@ fn windows_and_width(file: &JobFile) -> (Vec<i32>, Vec<i32>, usize) {
 fn same_plan(tester: &mut Tester, file: &[u8], struck: &[u8]) -> Option<Result<Vec<u8>, u8>> {
     let planned = tester.plan("plan: grown files", file);
     let without = tester.plan("plan: struck files", struck);
-    striking_case(tester, Of::Answer, "striking: the planner's answer", agree(&without, &planned), file);
+    file_case(tester, Of::Answer, "striking: the planner's answer", agree(&without, &planned), file);
     for (checked, answer) in [(file, &without), (struck, &planned)] {
         if let Ok(table) = answer {
             let passes = tester.check("check: planned for the other file", checked, table);
-            striking_case(tester, Of::Answer, "striking: planned tables pass", agree(&passes, &Ok(())), file);
+            file_case(tester, Of::Answer, "striking: planned tables pass", agree(&passes, &Ok(())), file);
         }
     }
     (planned == without).then_some(planned)
@@ -202,7 +251,7 @@ fn same_check(tester: &mut Tester, file: &[u8], struck: &[u8], table: &[u8]) {
         let kind = checked.map_or_else(|number| format!("both refused {number}"), |()| "both pass".to_string());
         tester.report.answer("striking, the check", kind);
     }
-    striking_case(tester, Of::Answer, "striking: the check's answer", verdict, file);
+    file_case(tester, Of::Answer, "striking: the check's answer", verdict, file);
 }
 
 /// The planned table of a sound file, tables that are valid or valid for other most boards, and of each some that are
@@ -227,7 +276,7 @@ fn drawn_tables(
     drawn
 }
 
-fn striking_case(tester: &mut Tester, of: Of, group: &'static str, verdict: Verdict, file: &[u8]) {
+fn file_case(tester: &mut Tester, of: Of, group: &'static str, verdict: Verdict, file: &[u8]) {
     let label = &tester.label;
     tester.report.case(of, group, verdict, || format!("{label}, file {}", shown(file)));
 }
@@ -391,7 +440,7 @@ fn many_tables(tester: &mut Tester) {
     if tester.random.percent(50) {
         draft.limit = tester.random.between(1, 64) as u8;
     }
-    let file = draft.bytes();
+    let file = draft.mixed_bytes(&mut tester.random);
     let planned = tester.plan("plan: any limit", &file);
     try_tables(tester, &file, &planned);
     let Ok(read) = read(&file) else { return };

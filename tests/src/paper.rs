@@ -1,5 +1,5 @@
 //! The cases that document 01 names, with their answers written out, and others whose answer its text settles, or that
-//! of requests 4, 5, 12, 13 and 14 in document 02.
+//! of requests 4, 5, 6, 12, 13 and 14 in document 02.
 
 use crate::generate::drafts::{boards_field, field, job_field, need_field, Draft};
 use crate::reference::entries::table_of;
@@ -33,7 +33,7 @@ const PRINTED_FILE: [u8; 36] = [
 const PRINTED: &str = "slots 3 boards 2\n1 a 0 1 2\n2 b 0 2 -2\n3 c 2 1 0\n";
 
 pub fn run(tester: &mut Tester) {
-    for (name, file, answer) in planned_cases().into_iter().chain(most_boards_cases()).chain(extras_cases()) {
+    for (name, file, answer) in named_cases() {
         planned(tester, name, &file, answer);
     }
     for (name, draft, width) in widths() {
@@ -54,6 +54,10 @@ pub fn run(tester: &mut Tester) {
     rounded(tester);
     every_level(tester);
     looked_up(tester);
+}
+
+fn named_cases() -> Vec<(&'static str, Vec<u8>, Answer)> {
+    [planned_cases(), repeated_cases(), most_boards_cases(), extras_cases()].into_iter().flatten().collect()
 }
 
 fn planned_cases() -> Vec<(&'static str, Vec<u8>, Answer)> {
@@ -105,7 +109,6 @@ fn planned_cases() -> Vec<(&'static str, Vec<u8>, Answer)> {
         ("the first bad field decides", [sound.clone(), need_field(1, 1), field(10, &[])].concat(), Refused(8)),
         ("a need before its job", [header, limit, job.clone(), need_field(1, 2), job].concat(), Refused(8)),
         ("a need with number 0", [sound.clone(), need_field(0, 1)].concat(), Refused(8)),
-        ("a need twice", [sound.clone(), need_field(1, 3)].concat(), Refused(9)),
         ("a need turned round", [sound, need_field(3, 1)].concat(), Refused(11)),
         ("too wide and impossible", plain(1, 11, &[(1, 2)]), Refused(12)),
         (
@@ -113,6 +116,38 @@ fn planned_cases() -> Vec<(&'static str, Vec<u8>, Answer)> {
             plain(4, 4, &[(1, 2), (2, 3), (4, 3)]),
             Planned(vec![0, 1, 2, 0], vec![1, 1, 1, 2]),
         ),
+    ]
+}
+
+/// Needs given twice. Counted twice, most of those that are planned would get 13 or another table.
+fn repeated_cases() -> Vec<(&'static str, Vec<u8>, Answer)> {
+    let plain = |limit, jobs, needs: &[(u8, u8)]| Draft::plain(limit, jobs, needs).bytes();
+    let twice = |draft: Draft| Draft { needs: draft.needs.repeat(2), ..draft }.bytes();
+    let then = |giver, taker| [plain(2, 2, &[(1, 2)]), need_field(giver, taker)].concat();
+    let two_jobs = || Planned(vec![0, 1], vec![1, 1]);
+    let two_givers = || Planned(vec![0, 0, 2], vec![1, 2, 1]);
+    let one_by_one = || Planned(vec![0, 1, 2], vec![1, 1, 1]);
+    let third_job = Planned(vec![0, 1, 0], vec![1, 1, 2]);
+    let figure_1 = Planned(vec![0, 0, 1, 2, 2, 3, 3, 4], vec![1, 2, 1, 1, 2, 1, 2, 1]);
+    vec![
+        ("a need twice", then(1, 2), two_jobs()),
+        ("a need twice, limit 1", plain(1, 2, &[(1, 2), (1, 2)]), Refused(13)),
+        ("a need 500 times", plain(2, 2, &[(1, 2); 500]), two_jobs()),
+        ("a need three times, a comment between", [then(1, 2), field(5, b"x"), need_field(1, 2)].concat(), two_jobs()),
+        ("a need again behind one more job", [then(1, 2), job_field(0, b"c"), need_field(1, 2)].concat(), third_job),
+        ("the later of two givers twice", plain(3, 3, &[(1, 2), (1, 3), (2, 3), (2, 3)]), one_by_one()),
+        ("the first of two needs twice", plain(3, 3, &[(1, 3), (2, 3), (1, 3)]), two_givers()),
+        ("two givers, each need twice", twice(Draft::plain(3, 3, &[(1, 3), (2, 3)])), two_givers()),
+        ("two takers, each need twice", twice(Draft::plain(3, 3, &[(1, 2), (1, 3)])), one_by_one()),
+        ("figure 1, each need twice", twice(Draft::plain(6, 8, &FIGURE_1)), figure_1),
+        ("chain of 64, each need twice", twice(Draft::chain(64, 64)), Planned((0..64).collect(), vec![1; 64])),
+        ("a pair the other way round", then(2, 1), Refused(11)),
+        ("both ways, each twice", plain(64, 2, &[(1, 2), (2, 1), (2, 1), (1, 2)]), Refused(11)),
+        ("a need of no job twice", plain(64, 2, &[(1, 3), (1, 3)]), Refused(8)),
+        ("a need of job 0 beside one of job 1", then(0, 2), Refused(8)),
+        ("a need for job 0 beside one for job 1", [plain(2, 2, &[(2, 1)]), need_field(2, 0)].concat(), Refused(8)),
+        ("a need twice before a bad field", [then(1, 2), field(10, &[])].concat(), Refused(4)),
+        ("a need twice, the second too long", [plain(2, 2, &[(1, 2)]), field(4, &[1, 2, 0])].concat(), Refused(6)),
     ]
 }
 
@@ -209,11 +244,10 @@ fn most_boards_cases() -> Vec<(&'static str, Vec<u8>, Answer)> {
 /// Files, and what the list of needs that follow from others prints for them; among them each file above that the
 /// questions up to 11, or 21, refuse.
 pub fn implied_cases() -> Vec<(&'static str, Vec<u8>, String)> {
-    let refused =
-        planned_cases().into_iter().chain(most_boards_cases()).filter_map(|(name, file, answer)| match answer {
-            Refused(number @ (2..=11 | 21)) => Some((name, file, format!("refused {number}\n"))),
-            _ => None,
-        });
+    let refused = named_cases().into_iter().filter_map(|(name, file, answer)| match answer {
+        Refused(number @ (2..=11 | 21)) => Some((name, file, format!("refused {number}\n"))),
+        _ => None,
+    });
     let listed = listed_cases().into_iter().map(|(name, draft, text)| (name, draft.bytes(), text.to_string()));
     listed.chain([all_pairs()]).chain(refused).collect()
 }
@@ -247,6 +281,8 @@ fn listed_cases() -> Vec<(&'static str, Draft, &'static str)> {
         ("most boards", Draft { boards: Some(1), ..plain(3, &shortcut) }, "1 3\n"),
         ("too wide to plan", Draft::plain(9, 12, &shortcut), "1 3\n"),
         ("more slots than the limit", Draft::plain(1, 3, &shortcut), "1 3\n"),
+        ("each of the three needs twice", plain(3, &shortcut.repeat(2)), "1 3\n"),
+        ("a need twice, and no other", plain(2, &[(1, 2), (1, 2)]), ""),
         ("a circle of three", plain(3, &[(1, 2), (2, 3), (3, 1)]), "refused 11\n"),
         ("a circle beside a need that follows", plain(5, &[&shortcut[..], &[(4, 5), (5, 4)]].concat()), "refused 11\n"),
     ]

@@ -44,6 +44,18 @@ pub three-listed : impliedIn (fileOf 4 ((2, 4) ∷ (1, 4) ∷ (3, 4) ∷ (2, 3) 
 unfolding listQuestions
 three-listed = refl
 
+-- each of the three needs twice: 1-3 is listed once, and both of its fields are struck (document 02, request 6)
+abbrev threeNeedsTwice : List ℕ
+threeNeedsTwice = fileOf 3 ((1, 2) ∷ (1, 3) ∷ (2, 3) ∷ (1, 2) ∷ (1, 3) ∷ (2, 3) ∷ []) 3
+
+pub listed-once : impliedIn threeNeedsTwice ≡ got ((0, 2) ∷ [])
+unfolding listQuestions
+listed-once = refl
+
+pub struck-together : strike ((0, 2) ∷ []) threeNeedsTwice ≡ fileOf 3 ((1, 2) ∷ (2, 3) ∷ (1, 2) ∷ (2, 3) ∷ []) 3
+unfolding fileBytes fileQuestions strike needAt fieldsBut
+struck-together = refl
+
 -- two ways from 1 to 4, each of two needs: all needs stand by themselves
 pub none-listed : impliedIn (fileOf 4 ((1, 2) ∷ (1, 3) ∷ (2, 4) ∷ (3, 4) ∷ []) 4) ≡ got []
 unfolding listQuestions

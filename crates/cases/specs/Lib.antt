@@ -1,5 +1,6 @@
 -- The cases of document 01, "Gates on paper": what a case is and when it holds, two ways to prove one, and the table with its theorem; examples
--- of extra jobs behind a gate's (document 02, request 12), of needs that follow from others (request 5) and of levels (request 4).
+-- of extra jobs behind a gate's (document 02, request 12), of needs that follow from others (request 5), of levels (request 4) and of needs given
+-- twice (request 6).
 pub mod Case
 pub mod Searched
 pub mod Others
@@ -9,3 +10,4 @@ pub mod Cases
 pub mod Extras
 pub mod Implied
 pub mod Levels
+pub mod RepeatedNeeds

@@ -121,7 +121,7 @@ grown : (s : State) (tag a : ℕ) (v : List ℕ) → Grown (s .fields) (takeFiel
 unfolding takeField takeNeed takeSockets linked Grown
 grown s tag a v =
     grown-ask k (contentOk tag v) 6 _ (by-choice (Grown k) (eqb tag 2) (λ _. refl) (λ _. by-choice (Grown k) (eqb tag 3) (λ _. grown-ask k (ltb (s .jobs) 64) 7 _ refl)
-    (λ _. by-choice (Grown k) (eqb tag 4) (λ _. grown-ask k _ 8 _ (grown-ask k _ 9 _ refl))
+    (λ _. by-choice (Grown k) (eqb tag 4) (λ _. grown-ask k _ 8 _ refl)
     (λ _. by-choice (Grown k) (eqb tag 9) (λ _. grown-ask k _ 21 _ refl) (λ _. refl)))))
   where
     k : ℕ

@@ -1,6 +1,6 @@
 -- The reader's state holds what the rules' reading has read: each field keeps it so. Assumes nothing.
 use mathlib.Core.Path.{_≡_, refl, sym, ap, _∙_}
-use mathlib.Core.Bool.{Bool, true, false, not, _&&_, _||_, or-false, and-comm, true≢false, false≢true}
+use mathlib.Core.Bool.{Bool, true, false, _&&_, _||_, or-false, and-comm, true≢false, false≢true}
 use mathlib.Core.List.{List, [], _∷_, _++_}
 use Prim.Native.Nat.{ℕ, suc, _+_, _-_, _^_, _<_}
 use native.Mathlib.Omega.{arith}
@@ -12,11 +12,11 @@ use lib.Bits.{or-lt}
 use lib.Pow.{pow-lt}
 use lib.Dec.{T, eqb}
 use Rattle.rules.specs.Basics.{choose, at}
-use Rattle.rules.specs.Fields.{Answer, got, ask, value, whole}
+use Rattle.rules.specs.Fields.{Answer, ask, value, whole}
 use Rattle.rules.specs.Needs.{givesb}
 use Rattle.rules.specs.JobFile.{JobFile, nthJob, counted, withLimit, withSockets, withJob, withNeed, jobOf, isJob, addNeed, addSockets, addField, contentOk}
 use Rattle.laws.specs.Tests.{tests, T-ltb, bool-ext}
-use Rattle.laws.specs.Lists.{any-snoc}
+use Rattle.laws.specs.Needs.{insert-gives}
 use Rattle.jobset.specs.Sets.{member, setAt, one, union, with}
 use Rattle.jobset.specs.Membership.{member-with}
 use Rattle.jobset.specs.Arrays.{SetsAre}
@@ -128,7 +128,7 @@ module _ (bs : List ℕ) (f : JobFile) (s : State) (held : Held bs f s) where
       job i l (no n) = rw (getD-set-other (s .offsets) (s .jobs) i a 0 n) (held .offsets-are i (omega arith) ∙ sym (List·getD-append (f .jobs) (jobOf (value bs a) ∷ []) _ i (omega (arith, held .jobs-is))))
 
   need-held : (g k : ℕ) → g < 64 → k < 64 → Held bs (withNeed f (g, k)) (linked s g k)
-  unfolding withNeed linked givesb
+  unfolding withNeed linked
   need-held g k h l = record {
     fields-is = one-more;
     limit-is = held .limit-is;
@@ -139,20 +139,17 @@ module _ (bs : List ℕ) (f : JobFile) (s : State) (held : Held bs f s) where
     offsets-whole = held .offsets-whole;
     offsets-are = held .offsets-are;
     givers-are = λ x y p q. sets-with (s .givers) _ k g (held .sizes .1) l h (held .givers-are) x y p q
-        ∙ ap (λ (b : Bool). givesb (f .needs) y x || b) (and-comm (eqb k x) (eqb g y)) ∙ sym (any-snoc (λ d. eqb (d .0) y && eqb (d .1) x) (f .needs) (g, k));
+        ∙ ap (λ (b : Bool). givesb (f .needs) y x || b) (and-comm (eqb k x) (eqb g y)) ∙ sym (insert-gives (f .needs) (g, k) y x);
     givers-small = small-with (s .givers) k g (held .sizes .1) l h (held .givers-small);
-    takers-are = λ x y p q. sets-with (s .takers) _ g k (held .sizes .2) h l (held .takers-are) x y p q ∙ sym (any-snoc (λ d. eqb (d .0) x && eqb (d .1) y) (f .needs) (g, k));
+    takers-are = λ x y p q. sets-with (s .takers) _ g k (held .sizes .2) h l (held .takers-are) x y p q ∙ sym (insert-gives (f .needs) (g, k) x y);
   }
 
   need-same : (g k : ℕ) → Same bs (addNeed f g k) (takeNeed s g k)
   unfolding addNeed takeNeed Same isJob
-  need-same g k = same-ask bs _ _ 8 _ _ (rw (held .jobs-is) refl) (λ t. step (there t))
-    where
-      there : T (isJob (length (f .jobs)) g && (isJob (length (f .jobs)) k && not (eqb g k))) → (g - 1 < 64) × (k - 1 < 64)
-      there t = let w = simp tests at t in omega (arith, held .few, held .jobs-is)
-
-      step : (g - 1 < 64) × (k - 1 < 64) → Same bs (ask (not (givesb (f .needs) (g - 1) (k - 1))) 9 (got (withNeed f (g - 1, k - 1)))) (ask (not (member (setAt (s .givers) (63 - (k - 1))) (63 - (g - 1)))) 9 (got (linked s (g - 1) (k - 1))))
-      step h = same-ask bs _ _ 9 _ _ (ap not (sym (held .givers-are (k - 1) (g - 1) (h .1) (h .0)))) (λ t. need-held (g - 1) (k - 1) (h .0) (h .1))
+  need-same g k =
+      same-ask bs _ _ 8 _ _ (rw (held .jobs-is) refl) (λ t.
+      let w = simp tests at t in
+      need-held (g - 1) (k - 1) (omega (arith, w, held .few, held .jobs-is)) (omega (arith, w, held .few, held .jobs-is)))
 
   sockets-same : (b : ℕ) → Same bs (addSockets f b) (takeSockets s b)
   unfolding addSockets takeSockets Same

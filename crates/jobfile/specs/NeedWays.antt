@@ -11,9 +11,8 @@ use Rattle.rules.specs.Basics.{choose, at}
 use Rattle.rules.specs.Fields.{refused, got, ask}
 use Rattle.rules.specs.JobFile.{isJob}
 use Rattle.laws.specs.Tests.{tests, T-true}
-use Rattle.jobset.specs.Sets.{member, setAt, with}
+use Rattle.jobset.specs.Sets.{setAt, with}
 use Rattle.jobset.specs.declared.Set.{Set}
-use Rattle.jobset.specs.Inclusion.{with-same, with-other}
 use Rattle.jobset.specs.Arrays.{giversIn, takersIn, giver-set, taker-set}
 use Rattle.jobfile.specs.declared.Counts.{Counts}
 use Rattle.jobfile.specs.Reading.{State, stateOf, answerOf, oneMore, linked, takeNeed}
@@ -73,13 +72,10 @@ module _ (s : State) (g k : ℕ) where
       same-job e = simp (giver, taker, eq-eqb g k e)
 
       module _ (other : g ≡ k → ⊥) where
-        pub known-need : member (setAt (s .givers) (63 - (k - 1))) (63 - (g - 1)) ≡ true → takeNeed s g k ≡ refused 9
+        -- both are jobs and differ: the need goes into both arrays, whether it was there or not
+        pub need-linked : takeNeed s g k ≡ got (linked s (g - 1) (k - 1))
         unfolding takeNeed ask
-        known-need e = simp (giver, taker, ne-eqb g k other, e)
-
-        pub new-need : member (setAt (s .givers) (63 - (k - 1))) (63 - (g - 1)) ≡ false → takeNeed s g k ≡ got (linked s (g - 1) (k - 1))
-        unfolding takeNeed ask
-        new-need e = simp (giver, taker, ne-eqb g k other, e)
+        need-linked = simp (giver, taker, ne-eqb g k other)
 
 -- ---- a need in the array of all tables
 
@@ -91,23 +87,12 @@ module _ (c : Counts) (o tables : List ℕ) (g k : ℕ) (giver : isJob (c .jobs)
   abbrev both : List ℕ
   both = bothPut tables (63 - (k - 1)) (63 - (g - 1))
 
-  -- the taker's givers with the giver
-  abbrev with-giver : Set
-  with-giver = with (setAt tables (63 - (k - 1))) (63 - (g - 1))
-
-  pub known-in : (s : Set) → s ≡ with-giver → s .bits ≡ at tables (63 - (k - 1)) → takeNeed before g k ≡ refused 9
-  known-in s w e =
-      let p = 63 - (k - 1) in let q = 63 - (g - 1) in
-      let m = with-same (setAt tables p) q .0 (ap (λ (x : Set). x .bits) (sym w) ∙ e) in
-      known-need before g k giver taker other (rw (giver-set tables p (omega arith)) m)
-
-  pub new-in : (s : Set) → s ≡ with-giver → (s .bits ≡ at tables (63 - (k - 1)) → ⊥)
-      → takeNeed before g k ≡ got (oneMore (stateOf c o (giversIn both) (takersIn both)) (c .limit) (c .sockets))
+  -- the need goes into both tables of the array
+  pub linked-in : takeNeed before g k ≡ got (oneMore (stateOf c o (giversIn both) (takersIn both)) (c .limit) (c .sockets))
   unfolding linked
-  new-in s w e =
+  linked-in =
       let p = 63 - (k - 1) in let q = 63 - (g - 1) in
-      let m = with-other (setAt tables p) q (λ d. e (ap (λ (x : Set). x .bits) w ∙ d)) in
-      new-need before g k giver taker other (rw (giver-set tables p (omega arith)) m)
+      need-linked before g k giver taker other
       ∙ rw (givers-put tables p q (omega arith), takers-put tables p q (omega arith) (omega arith)) refl
 
 -- ---- the reader's answer, where x and y are the two bytes v and w

@@ -8,7 +8,7 @@ use lib.Dec.{T, ltb, eqb}
 use Rattle.rules.specs.Basics.{choose, at}
 use Rattle.rules.specs.Fields.{Answer, refused, got, ask, numberOf, value, whole}
 use Rattle.rules.specs.JobFile.{JobFile, nthJob, contentOk, jobOf, isJob, readFile}
-use Rattle.jobset.specs.Sets.{member, setAt, with}
+use Rattle.jobset.specs.Sets.{setAt, with}
 use Rattle.jobset.specs.Arrays.{GiversAre, TakersAre}
 use Rattle.jobfile.specs.declared.Counts.{Counts}
 
@@ -49,11 +49,9 @@ linked s g k = record {
   takers = set (s .takers) (63 - g) (with (setAt (s .takers) (63 - g)) (63 - k) .bits);
 }
 
--- questions 8 and 9 of a need between the jobs with the numbers g and k
+-- question 8 of a need between the jobs with the numbers g and k; a pair that is in the sets already leaves them as they are
 unfoldable pub takeNeed : State → ℕ → ℕ → Answer State
-takeNeed s g k =
-    ask (isJob (s .jobs) g && (isJob (s .jobs) k && not (eqb g k))) 8
-    (ask (not (member (setAt (s .givers) (63 - (k - 1))) (63 - (g - 1)))) 9 (got (linked s (g - 1) (k - 1))))
+takeNeed s g k = ask (isJob (s .jobs) g && (isJob (s .jobs) k && not (eqb g k))) 8 (got (linked s (g - 1) (k - 1)))
 
 -- question 21 of the most boards b
 unfoldable pub takeSockets : State → ℕ → Answer State
@@ -71,7 +69,7 @@ withOffset s a = record {
   takers = s .takers;
 }
 
--- the rest of question 6, 7 to 9 and 21, of the field at offset a with tag and value
+-- the rest of question 6, 7, 8 and 21, of the field at offset a with tag and value
 unfoldable pub takeField : State → ℕ → ℕ → List ℕ → Answer State
 takeField s tag a v =
     ask (contentOk tag v) 6

@@ -1,4 +1,4 @@
-// The job file, read field by field: questions 2 to 10 of document 01, and 21. The field reader stands in crate fieldreader.
+// The job file, read field by field: questions 2 to 8 and 10 of document 01, and 21. The field reader stands in crate fieldreader.
 //
 // Jobs are counted from 0 here. In sets, and in the tables of sets, job i stands at place 63 - i (crate jobset).
 // All tables of a file are one array: the givers of each job, then the takers, then sets that the reader does not touch.
@@ -122,7 +122,7 @@ fn take_job(c: Counts, at: usize, v: &[u8], offsets: &mut [u16; 64]) -> Counts
     }
 }
 
-// A need: questions 8 and 9. It goes into the table of givers and into that of takers.
+// A need: question 8. It goes into the table of givers and into that of takers; a pair that comes again changes neither.
 fn take_need(c: Counts, v: &[u8], tables: &mut [u64; 260]) -> Counts
     requires { ⌜ (c .fields < 65536) × (c .jobs ≤ 64) × (2 ≤ length (now v)) ⌝ }
     ensures { λ r. ⌜ ((o : List ℕ) → answerOf r o (giversIn (now (tables .exit))) (takersIn (now (tables .exit))) ≡ takeNeed (stateOf c o (giversIn (now (tables .entry))) (takersIn (now (tables .entry)))) (at (now (v .entry)) 0) (at (now (v .entry)) 1)) × (length (now (tables .exit)) ≡ length (now (tables .entry))) ⌝ }
@@ -141,17 +141,14 @@ fn take_need(c: Counts, v: &[u8], tables: &mut [u64; 260]) -> Counts
     }
     let g = 63 - (giver - 1);
     let k = 63 - (taker - 1);
-    let before = Set { bits: tables[k] };
-    let after = before.with(g);
-    if after.bits == before.bits {
-        return refused(9);
-    }
-    tables[k] = after.bits;
-    let others = Set {
+    let givers = Set { bits: tables[k] };
+    let more_givers = givers.with(g);
+    tables[k] = more_givers.bits;
+    let takers = Set {
         bits: tables[64 + g],
     };
-    let more = others.with(k);
-    tables[64 + g] = more.bits;
+    let more_takers = takers.with(k);
+    tables[64 + g] = more_takers.bits;
     counted(c)
 }
 
@@ -179,7 +176,7 @@ fn take_sockets(c: Counts, v: &[u8]) -> Counts
     }
 }
 
-// The field at offset `at`, with its tag and value: the rest of question 6, 7 to 9, and 21.
+// The field at offset `at`, with its tag and value: the rest of question 6, 7, 8, and 21.
 fn take_field(
     c: Counts,
     tag: u8,
@@ -209,7 +206,7 @@ fn take_field(
     counted(c)
 }
 
-// All fields, one after the other: questions 3 to 9, and 21.
+// All fields, one after the other: questions 3 to 8, and 21.
 fn read_fields(file: &[u8], offsets: &mut [u16; 64], tables: &mut [u64; 260]) -> Counts
     requires { ⌜ (length (now file) ≤ 16384) × Held (now file) noFields (initial (now offsets) (giversIn (now tables)) (takersIn (now tables))) ⌝ }
     ensures { λ r. ⌜ Same (now (file .entry)) (allFields (now (file .entry))) (answerOf r (now (offsets .exit)) (giversIn (now (tables .exit))) (takersIn (now (tables .exit)))) × (length (now (tables .exit)) ≡ length (now (tables .entry))) ⌝ }
@@ -264,7 +261,7 @@ pub fn most_boards(sockets: u8) -> u8
     sockets
 }
 
-// The job file: questions 2 to 10, and 21. The offsets get where the field of each job starts, the tables its givers and its takers.
+// The job file: questions 2 to 8, 10, and 21. The offsets get where the field of each job starts, the tables its givers and its takers.
 pub fn read_file(file: &[u8], offsets: &mut [u16; 64], tables: &mut [u64; 260]) -> Counts
     requires { ⌜ (length (now offsets) ≡ 64) × (now tables ≡ replicate 260 0) ⌝ }
     ensures { λ r. ⌜ Reads (now (file .entry)) r (now (offsets .exit)) (giversIn (now (tables .exit))) (takersIn (now (tables .exit))) × (length (now (tables .exit)) ≡ 260) ⌝ }

@@ -1,13 +1,13 @@
 -- Inclusion of one set in another. Assumes nothing.
-use mathlib.Core.Path.{_≡_, refl, sym, ap, _∙_}
-use mathlib.Core.Bool.{true, false, false≢true}
-use mathlib.Core.Logic.{_↔_, _⊎_, ⊎-elim, inl, inr}
+use mathlib.Core.Path.{_≡_, sym, ap, _∙_}
+use mathlib.Core.Bool.{true, false≢true}
+use mathlib.Core.Logic.{_↔_, _⊎_, inl, inr}
 use Prim.Native.Nat.{ℕ, _≤_}
 use native.Mathlib.Omega.{arith}
 use borrow.Author.Tests.{eq-eqb, eqb-true}
 use lib.Bits.{bitAnd, and-le-r}
 use Rattle.jobset.specs.declared.Set.{Set}
-use Rattle.jobset.specs.Sets.{with, member, empty, one, union, intersection, minus, without, Subset, isSubset}
+use Rattle.jobset.specs.Sets.{member, empty, one, union, intersection, minus, without, Subset, isSubset}
 use Rattle.jobset.specs.Tests.{bool-ext}
 use Rattle.jobset.specs.Membership.{member-empty, in-one, in-union, in-intersection, in-minus, set-ext}
 
@@ -81,16 +81,3 @@ is-subset s t = (to, from)
 pub subset-le : (s t : Set) → Subset s t → s .bits ≤ t .bits
 unfolding isSubset
 subset-le s t f = omega (arith, eqb-true (bitAnd (s .bits) (t .bits)) (s .bits) (is-subset s t .1 f), and-le-r (s .bits) (t .bits))
-
--- a set with i is the same number exactly where it had i
-pub with-same : (s : Set) (i : ℕ) → (with s i .bits ≡ s .bits) ↔ (member s i ≡ true)
-unfolding with Subset
-with-same s i = (
-  λ e. sym (ap (λ (n : ℕ). member (record { bits = n }) i) e) ∙ in-union s (one i) i .1 (inr (in-one i i .1 refl)),
-  λ m. ap (λ (x : Set). x .bits) (subset-antisym (with s i) s
-      (λ j p. ⊎-elim (λ q. q) (λ q. rw (in-one i j .0 q) m) (in-union s (one i) j .0 p))
-      (λ j p. in-union s (one i) j .1 (inl p))),
-)
-
-pub with-other : (s : Set) (i : ℕ) → (with s i .bits ≡ s .bits → ⊥) → member s i ≡ false
-with-other s i f = bool-ext (member s i) false (λ m. absurd (f (with-same s i .1 m))) (λ e. absurd (false≢true e))

@@ -63,7 +63,7 @@ unfolding addField addNeed addSockets counted withLimit withSockets withJob with
 add-alike f tag v late =
     choose-alike (eqb tag 2) (both-read (withLimit f (at v 0)) (omega arith))
     (choose-alike (eqb tag 3) (ask-alike _ 7 (both-read (withJob f (jobOf v)) (omega arith)))
-    (choose-alike (eqb tag 4) (ask-alike _ 8 (ask-alike _ 9 (both-read (withNeed f (at v 0 - 1, at v 1 - 1)) (omega arith))))
+    (choose-alike (eqb tag 4) (ask-alike _ 8 (both-read (withNeed f (at v 0 - 1, at v 1 - 1)) (omega arith)))
     (choose-alike (eqb tag 9) (ask-alike _ 21 (both-read (withSockets f (at v 0)) (omega arith))) (both-read (counted f) (omega arith)))))
 
 -- question 5 does not tell numbers of fields from two up apart
@@ -112,6 +112,11 @@ pub record SameAnswers (file other : List ℕ) : Type 0 where
   pub checked : (table : List ℕ) → check file table ≡ check other table
   pub listed : (list : List ℕ) → listImplied file list ≡ listImplied other list
 
+-- files that are read as the same get the same answers
+pub read-same-answers : (file other : List ℕ) → readFile file ≡ readFile other → SameAnswers file other
+unfolding plan check listImplied impliedIn
+read-same-answers file other e = record { planned = λ work table. rw e refl; checked = λ table. rw e refl; listed = λ list. rw e refl }
+
 -- what is planned looks at limit, most boards, jobs and needs alone
 planTable-counted : (f : JobFile) → planTable (counted f) ≡ planTable f
 unfolding planTable mostBoards tabled tableOf counted
@@ -136,7 +141,7 @@ same-answers bs zs h = record {
 -- ---- the comment
 
 -- behind header and limit it is a field that adds nothing
-comment-adds : (f : JobFile) (v : List ℕ) → 2 ≤ f .fields → length v < 65536 → askField f 5 v ≡ got (counted f)
+pub comment-adds : (f : JobFile) (v : List ℕ) → 2 ≤ f .fields → length v < 65536 → askField f 5 v ≡ got (counted f)
 unfolding inPlace lengthOk fieldRow firstRow fieldRows contentOk addField choose
 comment-adds f v late h =
     ask-yes (knownTag 5) 4 _ (known-is 5 .1 (inl (omega arith)))
@@ -173,7 +178,7 @@ unfolding addField addNeed addSockets withLimit withJob withNeed withSockets cou
 one-more f e tag v =
     by-choice P (eqb tag 2) (λ _. is (withLimit f (at v 0)) refl)
     (λ _. by-choice P (eqb tag 3) (λ _ q. is (withJob f (jobOf v)) refl (ask-got _ 7 _ e q .1))
-    (λ _. by-choice P (eqb tag 4) (λ _ q. is (withNeed f (at v 0 - 1, at v 1 - 1)) refl (ask-got _ 9 _ e (ask-got _ 8 _ e q .1) .1))
+    (λ _. by-choice P (eqb tag 4) (λ _ q. is (withNeed f (at v 0 - 1, at v 1 - 1)) refl (ask-got _ 8 _ e q .1))
     (λ _. by-choice P (eqb tag 9) (λ _ q. is (withSockets f (at v 0)) refl (ask-got _ 21 _ e q .1)) (λ _. is (counted f) refl))))
   where
     P : Answer JobFile → Type 0

@@ -31,6 +31,12 @@ unfolding after
 after-got (refused q) f b e = absurd (let z : _≡_ {A = ℕ} 0 1 = cc in omega arith)
 after-got (got a) f b e = (a, refl, e)
 
+-- the same follows an answer, where it does what was got
+pub after-same : {A B : Type 0} (r : Answer A) (f g : A → Answer B) → ((a : A) → r ≡ got a → f a ≡ g a) → after r f ≡ after r g
+unfolding after
+after-same (refused q) f g h = refl
+after-same (got a) f g h = h a refl
+
 pub ask-yes : {A : Type 0} (b : Bool) (q : ℕ) (r : Answer A) → T b → ask b q r ≡ r
 unfolding ask
 ask-yes true q r t = refl

@@ -21,7 +21,7 @@ use Rattle.laws.specs.FileParts.{readFrom, askField, readFrom-field}
 
 module _ (bs : List ℕ) (bytes : Bytes bs) (a : ℕ) (h : T (whole bs a)) where
   -- its head says how long its value is
-  head-length : (length (value bs a) < 65536) × (low (length (value bs a)) ≡ at bs (a + 1)) × (high (length (value bs a)) ≡ at bs (a + 2))
+  pub head-length : (length (value bs a) < 65536) × (low (length (value bs a)) ≡ at bs (a + 1)) × (high (length (value bs a)) ≡ at bs (a + 2))
   unfolding fieldEnd
   head-length =
       let w = split-word (at bs (a + 1)) (at bs (a + 2)) (bytes-at bs bytes (a + 1)) (bytes-at bs bytes (a + 2)) in

@@ -18,10 +18,14 @@ use Rattle.laws.specs.Table.{field-at}
 
 -- ---- what is read from an offset on
 
--- from offset a on the file is whole fields
-pub data FieldsFrom (bs : List ℕ) : ℕ → Type 0 where
-  done : (a : ℕ) → a ≡ length bs → FieldsFrom bs a
-  more : (a : ℕ) → T (whole bs a) → FieldsFrom bs (fieldEnd bs a) → FieldsFrom bs a
+-- from offset a to before offset e the file is whole fields
+pub data FieldsTo (bs : List ℕ) (e : ℕ) : ℕ → Type 0 where
+  done : (a : ℕ) → a ≡ e → FieldsTo bs e a
+  more : (a : ℕ) → T (whole bs a) → FieldsTo bs e (fieldEnd bs a) → FieldsTo bs e a
+
+-- from offset a on
+abbrev pub FieldsFrom : List ℕ → ℕ → Type 0
+FieldsFrom bs a = FieldsTo bs (length bs) a
 
 -- a whole number of fields
 abbrev pub Fields : List ℕ → Type 0
@@ -85,6 +89,25 @@ readable-fields bs f q =
     let w = after-got (readFrom bs 0 noFields) complete f (ask-got (leb (length bs) maxFile) 2 _ f q .1) in
     read-fields bs (length bs) 0 (omega arith) (omega arith) noFields (w .0) (w .1)
 
+-- it says what its fields say
+pub fields-read : (bs : List ℕ) (f : JobFile) → readFile bs ≡ got f → readFrom bs 0 noFields ≡ got f
+unfolding readFile complete
+fields-read bs f q =
+    let w = after-got (readFrom bs 0 noFields) complete f (ask-got (leb (length bs) maxFile) 2 _ f q .1) in
+    w .1 ∙ ask-got _ 10 (got (w .0)) f (w .2) .1
+
+-- what is read without a refusal is read through each offset at which a field starts
+pub read-through : (bs : List ℕ) (e a : ℕ) → FieldsTo bs e a → (f g : JobFile) → readFrom bs a f ≡ got g → (p : JobFile) × (readFrom bs e p ≡ got g)
+read-through bs e _ (done a same) f g q = (f, ap (λ (k : ℕ). readFrom bs k f) (sym same) ∙ q)
+read-through bs e _ (more a h rest) f g q =
+    let w = after-got (readField bs f a) (readFrom bs (fieldEnd bs a)) g (sym (readFrom-step bs a f (omega (arith, whole-is bs a .0 h))) ∙ q) in
+    read-through bs e (fieldEnd bs a) rest (w .0) g (w .2)
+
+-- whole fields lead to no offset before
+fields-order : (bs : List ℕ) (e a : ℕ) → FieldsTo bs e a → a ≤ e
+fields-order bs e _ (done a same) = omega arith
+fields-order bs e _ (more a h rest) = omega (arith, fields-order bs e (fieldEnd bs a) rest, after-head bs a)
+
 -- ---- a file of two parts
 
 module _ (xs zs : List ℕ) where
@@ -99,7 +122,7 @@ module _ (xs zs : List ℕ) where
         let w = whole-is xs a .0 h in
         whole-is (xs ++ zs) a .1 (omega (arith, length-append xs zs), omega (arith, length-append xs zs, fieldEnd-front))
 
-    value-front : value (xs ++ zs) a ≡ value xs a
+    pub value-front : value (xs ++ zs) a ≡ value xs a
     unfolding value part
     value-front =
         let w = whole-is xs a .0 h in
@@ -112,6 +135,24 @@ module _ (xs zs : List ℕ) where
     readField-front f =
         let w = whole-is xs a .0 h in
         ask-yes (whole (xs ++ zs) a) 3 _ whole-front ∙ rw (List·getD-append xs zs 0 a (omega (arith, w)), value-front) (sym (ask-yes (whole xs a) 3 _ h))
+
+  -- a field that is whole in both together, and ends within the first part, is whole there
+  module _ (a : ℕ) (h : T (whole (xs ++ zs) a)) (ends : fieldEnd (xs ++ zs) a ≤ length xs) where
+    fieldEnd-cut : fieldEnd xs a ≡ fieldEnd (xs ++ zs) a
+    unfolding fieldEnd
+    fieldEnd-cut =
+        let l = after-head (xs ++ zs) a in
+        rw (List·getD-append xs zs 0 (a + 1) (omega (arith, l, ends)), List·getD-append xs zs 0 (a + 2) (omega (arith, l, ends))) refl
+
+    whole-cut : T (whole xs a)
+    whole-cut = whole-is xs a .1 (omega (arith, after-head (xs ++ zs) a, ends), omega (arith, fieldEnd-cut, ends))
+
+  -- so are whole fields up to an offset within it
+  pub fields-cut : (e a : ℕ) → FieldsTo (xs ++ zs) e a → e ≤ length xs → FieldsTo xs e a
+  fields-cut e _ (done a same) l = done a same
+  fields-cut e _ (more a h rest) l =
+      let ends : fieldEnd (xs ++ zs) a ≤ length xs = omega (arith, fields-order (xs ++ zs) e (fieldEnd (xs ++ zs) a) rest, l) in
+      more a (whole-cut a h ends) (rw (fieldEnd-cut a h ends) (fields-cut e (fieldEnd (xs ++ zs) a) rest l))
 
   -- a field at offset a of the second part: its end, its value and its questions are as in that part alone
   at-behind : (a i : ℕ) → at (xs ++ zs) (length xs + a + i) ≡ at zs (a + i)

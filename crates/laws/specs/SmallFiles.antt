@@ -14,19 +14,19 @@ use Rattle.rules.specs.Sizes.{maxJobs, maxBoards, maxFile}
 use Rattle.rules.specs.Basics.{choose, all, any, range, tabulate, joined, Distinct}
 use Rattle.rules.specs.Numbers.{Bytes, word, signed}
 use Rattle.rules.specs.Fields.{Answer, got, after, field}
-use Rattle.rules.specs.Needs.{Need, Gives, givesb, NeedsIn}
+use Rattle.rules.specs.Needs.{Need, Gives, NeedsIn}
 use Rattle.rules.specs.JobFile.{fieldRows, firstRow, fieldRow, Job, JobFile, mostBoards, nameByte, knownTag, inPlace, lengthOk, contentOk}
 use Rattle.rules.specs.JobFile.{counted, withLimit, withJob, withNeed, jobOf, isJob, addNeed, addField, noFields, complete, readFile}
 use Rattle.rules.specs.Answers.{planTable}
 use Rattle.rules.specs.SmallGates.{bit, needBit, pairs, needsOf, gateb, gates, jobField, needField, gateFile}
 use Rattle.rules.specs.SmallGates.{fewest, slotsIn, plannedSlots}
-use Rattle.laws.specs.Tests.{T-not, T-leb, tests}
+use Rattle.laws.specs.Tests.{T-leb, tests}
 use Rattle.laws.specs.Lists.{filter-mem⁻¹, length-filter, length-tabulate, tabulate-last}
 use Rattle.laws.specs.Counting.{length-range, distinct-before}
 use Rattle.laws.specs.Numbers.{bytes-join}
 use Rattle.laws.specs.Fields.{ask-yes, bytes-field, overFields-end}
 use Rattle.laws.specs.JobFile.{place-same, readable}
-use Rattle.laws.specs.Program.{gives-is}
+use Rattle.laws.specs.Needs.{insert-new}
 use Rattle.laws.specs.FileParts.{readFrom, readFrom-field}
 use Rattle.laws.specs.SmallGates.{needs-are, needs-of-in, distinct-needs, no-self}
 use Rattle.laws.specs.Fewest.{every-planned}
@@ -115,9 +115,8 @@ need-read n es g k zs g-in k-in apart new =
         let same-k : suc k - 1 ≡ k = omega arith in
         let size = length-tabulate gateJob n 0 in
         rw (same-g, same-k) (ask-yes _ 8 _ (simp tests (omega arith, (omega arith, λ e. apart (omega arith))))
-        ∙ ask-yes _ 9 _ (T-not (givesb es g k) .1 (λ t. new (gives-is es g k .0 t)))
-        ∙ ap (λ (m : ℕ). got (record { fields = m; limit = n; sockets = 0; jobs = tabulate gateJob n 0; needs = es ++ (g, k) ∷ [] }))
-        (omega (arith, length-append es ((g, k) ∷ []))))
+        ∙ ap₂ (λ (m : ℕ) (ds : List Need). got (record { fields = m; limit = n; sockets = 0; jobs = tabulate gateJob n 0; needs = ds }))
+        (omega (arith, length-append es ((g, k) ∷ []))) (insert-new es (g, k) new))
 
 -- needs between two different ones of the n jobs, behind others; none of all these twice
 needs-read : (n : ℕ) (ds es : List Need) → ((g k : ℕ) → Gives ds g k → (g < n) × (k < n) × (g ≢ k)) → Distinct (es ++ ds)

@@ -80,8 +80,7 @@ module _ (c : ℕ) where
   add-beside said g u tag v h z =
       choose-beside Beside (eqb tag 2) (λ _. file-beside (withLimit g (at v 0)) (omega arith) z)
       (choose-beside Beside (eqb tag 3) (λ _. ask-beside Beside _ _ 7 (λ t. t) (file-beside (withJob g (jobOf v)) (omega arith) z))
-      (choose-beside Beside (eqb tag 4) (λ _. ask-beside Beside _ _ 8 (λ t. t) (ask-beside Beside _ _ 9 (λ t. t)
-      (file-beside (withNeed g (at v 0 - 1, at v 1 - 1)) (omega arith) z)))
+      (choose-beside Beside (eqb tag 4) (λ _. ask-beside Beside _ _ 8 (λ t. t) (file-beside (withNeed g (at v 0 - 1, at v 1 - 1)) (omega arith) z))
       (choose-beside Beside (eqb tag 9) (λ _ e. absurd (omega (arith, T-eqb c 0 .0 (ask-got (eqb c 0) 21 _ u e .0))))
       (file-beside (counted g) (omega arith) z))))
 

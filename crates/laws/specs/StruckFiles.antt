@@ -14,7 +14,7 @@ use Rattle.rules.specs.Sizes.{maxWidth}
 use Rattle.rules.specs.Basics.{choose, at, filter}
 use Rattle.rules.specs.Numbers.{Bytes}
 use Rattle.rules.specs.Fields.{Answer, got, ask, after, value}
-use Rattle.rules.specs.Needs.{Need, givesb, Circle, circleFree}
+use Rattle.rules.specs.Needs.{Need, Gives, givesb, insertNeed, Circle, circleFree}
 use Rattle.rules.specs.JobFile.{JobFile, mostBoards, knownTag, inPlace, lengthOk, contentOk, counted, withLimit, withSockets, withJob, withNeed, jobOf}
 use Rattle.rules.specs.JobFile.{addNeed, addSockets, addField, noFields, complete, readFile}
 use Rattle.rules.specs.Windows.{release, tail, width}
@@ -23,11 +23,12 @@ use Rattle.rules.specs.Boards.{runsb}
 use Rattle.rules.specs.Table.{Table, starts, boardsOf, decode}
 use Rattle.rules.specs.Answers.{tableOf, tabled, planTable, plan, check}
 use Rattle.rules.specs.Implied.{impliedNeeds, impliedIn, struck, needAt, strike}
-use Rattle.laws.specs.Tests.{T-and, T-not, T-eqb, tests, bool-ext, choose-yes, choose-no}
-use Rattle.laws.specs.Lists.{filter-mem⁻¹, filter-append}
+use Rattle.laws.specs.Tests.{T-and, T-not, T-eqb, tests, by-test, bool-ext, by-choice, choose-yes, choose-no}
+use Rattle.laws.specs.Lists.{filter-mem, filter-mem⁻¹, filter-append}
 use Rattle.laws.specs.Fields.{got-same, ask-got, after-got, ask-yes, GotBeside, got-beside, ask-beside, choose-beside}
 use Rattle.laws.specs.JobFile.{Readable, needs-in, place-late, place-same, readable}
 use Rattle.laws.specs.Program.{gives-is}
+use Rattle.laws.specs.Needs.{insert-known, insert-new}
 use Rattle.laws.specs.Circles.{circle-free}
 use Rattle.laws.specs.Width.{fileWidth}
 use Rattle.laws.specs.Best.{best-is}
@@ -53,20 +54,23 @@ module _ (p : Need → Bool) where
     reads : t ≡ fewer count s
     place : min 2 (s .fields) ≡ min 2 count
 
-  -- one need more, which passes or not
-  one-left : (ds : List Need) (d : Need) → T (p d) → filter p (ds ++ d ∷ []) ≡ filter p ds ++ d ∷ []
+  -- one need more that passes: a pair that is there already is so among those that pass
+  one-left : (ds : List Need) (d : Need) → T (p d) → filter p (insertNeed ds d) ≡ insertNeed (filter p ds) d
   unfolding filter
-  one-left ds d h = filter-append p ds (d ∷ []) ∙ ap (λ (l : List Need). filter p ds ++ l) (choose-yes (p d) (d ∷ []) [] h)
+  one-left ds d h = go (by-test (givesb ds (d .0) (d .1)) (gives-is ds (d .0) (d .1)))
+    where
+      go : Dec (Gives ds (d .0) (d .1)) → filter p (insertNeed ds d) ≡ insertNeed (filter p ds) d
+      go (yes m) = rw (insert-known ds d m, insert-known (filter p ds) d (filter-mem p ds d m h)) refl
+      go (no n) =
+          rw (insert-new ds d n, insert-new (filter p ds) d (λ m. n (filter-mem⁻¹ p ds d m .0)))
+          (filter-append p ds (d ∷ []) ∙ ap (λ (l : List Need). filter p ds ++ l) (choose-yes (p d) (d ∷ []) [] h))
 
-  one-gone : (ds : List Need) (d : Need) → (T (p d) → ⊥) → filter p (ds ++ d ∷ []) ≡ filter p ds
-  unfolding filter
-  one-gone ds d h = filter-append p ds (d ∷ []) ∙ ap (λ (l : List Need). filter p ds ++ l) (choose-no (p d) (d ∷ []) [] h) ∙ append-nil (filter p ds)
-
-  -- a need that is the first of its pair is so among those that pass (question 9)
-  still-first : (ds : List Need) (g k : ℕ) → T (not (givesb ds g k)) → T (not (givesb (filter p ds) g k))
-  still-first ds g k h =
-      T-not (givesb (filter p ds) g k) .1 (λ t.
-      T-not (givesb ds g k) .0 h (gives-is ds g k .1 (filter-mem⁻¹ p ds (g, k) (gives-is (filter p ds) g k .0 t) .0)))
+  -- one that does not pass, first of its pair or not
+  one-gone : (ds : List Need) (d : Need) → (T (p d) → ⊥) → filter p (insertNeed ds d) ≡ filter p ds
+  unfolding filter insertNeed
+  one-gone ds d h =
+      by-choice (λ (l : List Need). filter p l ≡ filter p ds) (givesb ds (d .0) (d .1)) (λ _. refl)
+      (λ _. filter-append p ds (d ∷ []) ∙ ap (λ (l : List Need). filter p ds ++ l) (choose-no (p d) (d ∷ []) [] h) ∙ append-nil (filter p ds))
 
   -- a file read by both
   file-beside : {u : JobFile} (k : ℕ) (s : JobFile) → min 2 (s .fields) ≡ min 2 k → got s ≡ got u → GotBeside Beside u (got (fewer k s))
@@ -79,8 +83,8 @@ module _ (p : Need → Bool) where
   add-beside k s u tag v h passes =
       choose-beside Beside (eqb tag 2) (λ _. file-beside (suc k) (withLimit s (at v 0)) (omega arith))
       (choose-beside Beside (eqb tag 3) (λ _. ask-beside Beside _ _ 7 (λ t. t) (file-beside (suc k) (withJob s (jobOf v)) (omega arith)))
-      (choose-beside Beside (eqb tag 4) (λ four. ask-beside Beside _ _ 8 (λ t. t) (ask-beside Beside _ _ 9 (still-first (s .needs) (at v 0 - 1) (at v 1 - 1))
-      (rw (← (one-left (s .needs) (at v 0 - 1, at v 1 - 1) (passes four))) (file-beside (suc k) (withNeed s (at v 0 - 1, at v 1 - 1)) (omega arith)))))
+      (choose-beside Beside (eqb tag 4) (λ four. ask-beside Beside _ _ 8 (λ t. t)
+      (rw (← (one-left (s .needs) (at v 0 - 1, at v 1 - 1) (passes four))) (file-beside (suc k) (withNeed s (at v 0 - 1, at v 1 - 1)) (omega arith))))
       (choose-beside Beside (eqb tag 9) (λ _. ask-beside Beside _ _ 21 (λ t. t) (file-beside (suc k) (withSockets s (at v 0)) (omega arith)))
       (file-beside (suc k) (counted s) (omega arith)))))
 
@@ -98,8 +102,8 @@ module _ (p : Need → Bool) where
       let d : Need = (at v 0 - 1, at v 1 - 1) in
       let q5 = ask-got (inPlace (s .fields) 4) 5 _ u (ask-got (knownTag 4) 4 _ u e .1) in
       let q6 = ask-got (lengthOk 4 (length v) && contentOk 4 v) 6 _ u (q5 .1) in
-      let q9 = ask-got _ 9 (got (withNeed s d)) u (ask-got _ 8 _ u (q6 .1) .1) in
-      subst (λ (x : JobFile). Beside x t) (got-same (withNeed s d) u (q9 .1)) record {
+      let q8 = ask-got _ 8 (got (withNeed s d)) u (q6 .1) in
+      subst (λ (x : JobFile). Beside x t) (got-same (withNeed s d) u (q8 .1)) record {
         count = b .count;
         reads = b .reads ∙ ap (λ (ds : List Need). withNeeds (b .count) ds s) (sym (one-gone (s .needs) d fails));
         place = omega (arith, b .place, place-late (s .fields) 4 (q5 .0) (omega arith));

@@ -1,4 +1,4 @@
-// The cases of document 01, section "Gates on paper", whose files have jobs, and refusals of needs. Needs are pairs of bytes: giver, taker.
+// The cases of document 01, section "Gates on paper", whose files have jobs; refusals of needs, and needs given twice. Needs are pairs of bytes: giver, taker.
 use crate::answers::plan;
 ghost use Prim.Native.Nat.{_≤_};
 
@@ -54,7 +54,24 @@ fn three() {
 fn refused() {
     with_needs(b"8 a need of the third of two jobs", 64, 2, b"\x01\x03");
     with_needs(b"8 a need of a job for itself", 64, 2, b"\x02\x02");
-    with_needs(b"9 a need twice", 64, 2, b"\x01\x02\x01\x02");
+    with_needs(b"8 a need of job 0", 64, 2, b"\x01\x02\x00\x02");
+}
+
+fn repeated() {
+    with_needs(b"needs 1-2 1-2, limit 2", 2, 2, b"\x01\x02\x01\x02");
+    with_needs(b"needs 1-2 1-2, limit 1", 1, 2, b"\x01\x02\x01\x02");
+    with_needs(
+        b"needs 1-2 1-3 2-3 2-3, limit 3",
+        3,
+        3,
+        b"\x01\x02\x01\x03\x02\x03\x02\x03",
+    );
+    with_needs(
+        b"needs 1-2 2-1 1-2, limit 64",
+        64,
+        2,
+        b"\x01\x02\x02\x01\x01\x02",
+    );
 }
 
 fn figure(label: &[u8], limit: u8) {
@@ -87,4 +104,5 @@ pub(crate) fn all() {
     wide();
     chains();
     refused();
+    repeated();
 }

@@ -83,7 +83,20 @@ fn put_if(file: &mut [u8; 1222], sockets: u8, needs: &[u8; 25], place: usize, at
     at
 }
 
-// The job file of these sizes with so many extra jobs, and with these needs in the order of the table from a place on and then around. Gives its length.
+// The value of tag 9 at a step of writing the needs: it is written in the first round alone.
+fn sockets_at(sockets: u8, step: usize) -> u8 {
+    if step < 25 { sockets } else { 0 }
+}
+
+// How many places are gone through from this one on: all, or in half of the files 15 once more.
+fn steps_from(first: usize) -> usize
+    ensures { λ r. ⌜ r ≤ 40 ⌝ }
+{
+    if first % 2 == 0 { 25 } else { 40 }
+}
+
+// The job file of these sizes with so many extra jobs, and with these needs in the order of the table from a place on and then around; in half of the files
+// those at 15 places come twice. Gives its length.
 pub(crate) fn put_file(
     file: &mut [u8; 1222],
     sizes: Sizes,
@@ -94,9 +107,11 @@ pub(crate) fn put_file(
     requires { ⌜ (sizes .jobs ≤ 5) × (extras ≤ 9) × (first ≤ 25) ⌝ }
 {
     let mut at = drafts::put_jobs(file, sizes.limit, sizes.jobs + extras);
+    let steps = steps_from(first);
     let mut k = 0;
-    while k < 25 {
-        at = put_if(file, sizes.sockets, needs, (first + k) % 25, at);
+    while k < steps {
+        let sockets = sockets_at(sizes.sockets, k);
+        at = put_if(file, sockets, needs, (first + k) % 25, at);
         k += 1;
     }
     at

@@ -1,10 +1,10 @@
 -- Needs and circles (document 01, "The rules a table keeps", question 11). Jobs are counted from 0 here. Assumes nothing.
 use mathlib.Core.Bool.{Bool, false, _&&_}
-use mathlib.Core.List.{List, List·Memᴰ}
+use mathlib.Core.List.{List, [], _∷_, _++_, List·Memᴰ}
 use Prim.Native.Nat.{ℕ, zero, suc, _<_}
 use lib.ListN.{getD, replicate}
 use lib.Dec.{eqb}
-use Rattle.rules.specs.Basics.{imp, all, any, range, tabulate}
+use Rattle.rules.specs.Basics.{choose, imp, all, any, range, tabulate}
 
 -- a need, (giver, taker): an arc of the precedence graph, predecessor and successor
 abbrev pub Need : Type 0
@@ -17,6 +17,10 @@ Gives needs g k = List·Memᴰ (g, k) needs
 -- the same as a test
 unfoldable pub givesb : List Need → ℕ → ℕ → Bool
 givesb needs g k = any (λ d. eqb (d .0) g && eqb (d .1) k) needs
+
+-- "A repeated need counts once": d goes behind the needs, unless it is among them (document 02, request 6)
+unfoldable pub insertNeed : List Need → Need → List Need
+insertNeed needs d = choose (givesb needs (d .0) (d .1)) needs (needs ++ d ∷ [])
 
 -- the needs are between the n jobs
 abbrev pub NeedsIn : ℕ → List Need → Type 0

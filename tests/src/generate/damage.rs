@@ -3,7 +3,7 @@
 use super::drafts::{boards_field, field, job_field, level, name, need_field, Draft};
 use super::random::Random;
 
-/// A file in which one thing that a question asks is wrong, at a place of its own choosing; now and then two.
+/// A file in which one thing that a question asks is wrong, or a need is given once more, at a place of its own choosing; now and then two.
 pub fn fields(random: &mut Random, draft: &Draft) -> Vec<u8> {
     let mut fields = draft.fields();
     for _ in 0..random.pick(&[1, 1, 1, 2]) {
@@ -61,7 +61,7 @@ fn jobs(random: &mut Random, draft: &Draft, fields: &mut Vec<Vec<u8>>) {
     }
 }
 
-/// Needs: wrong lengths, numbers of no job, the same twice, back again, round in a circle.
+/// Needs: wrong lengths, numbers of no job, back again, round in a circle; and the same twice, which is no damage.
 fn needs(random: &mut Random, draft: &Draft, fields: &mut Vec<Vec<u8>>) {
     let jobs = draft.jobs.len() as u8;
     let job = random.below(jobs as usize) as u8 + 1;

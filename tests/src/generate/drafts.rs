@@ -90,12 +90,24 @@ impl Draft {
         self.fields().concat()
     }
 
-    /// The same jobs and needs, each need anywhere behind its two jobs, and most boards and comments anywhere.
+    /// The same with some of its needs given again, in up to six fields more; now and then with all of them, one to four times more.
+    pub fn with_copies(&self, random: &mut Random) -> Draft {
+        let copies = match random.below(4) {
+            _ if self.needs.is_empty() => Vec::new(),
+            0 => self.needs.repeat(random.between(1, 4)),
+            _ => (0..random.between(1, 6)).map(|_| random.pick(&self.needs)).collect(),
+        };
+        Draft { needs: [&self.needs[..], &copies].concat(), ..self.clone() }
+    }
+
+    /// The same jobs and needs, each need anywhere behind its two jobs, and most boards and comments anywhere; in a quarter
+    /// of the files with copies of needs.
     pub fn mixed_bytes(&self, random: &mut Random) -> Vec<u8> {
+        let needs = if random.percent(25) { self.with_copies(random).needs } else { self.needs.clone() };
         let mut fields: Vec<Vec<u8>> = self.fields()[..2 + self.jobs.len()].to_vec();
         // job number k stands at place k + 1; a need may stand at any place behind both of its jobs
         let mut places: Vec<Vec<Vec<u8>>> = vec![Vec::new(); fields.len()];
-        for &(giver, taker) in &self.needs {
+        for (giver, taker) in needs {
             let place = random.between(giver.max(taker) as usize + 1, fields.len() - 1);
             places[place].push(need_field(giver, taker));
         }

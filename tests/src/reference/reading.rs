@@ -1,4 +1,4 @@
-//! Reading a job file: questions 2 to 10, and 21.
+//! Reading a job file: questions 2 to 10, without 9, and 21.
 
 /// A job as the file has it.
 #[derive(Clone, Debug, PartialEq)]
@@ -8,7 +8,7 @@ pub struct Job {
     pub name: Vec<u8>,
 }
 
-/// A readable job file. Needs are pairs of giver and taker, counted from 0.
+/// A readable job file. Needs are pairs of giver and taker, counted from 0, each pair once.
 #[derive(Clone, Debug, PartialEq)]
 pub struct JobFile {
     pub limit: u8,
@@ -126,9 +126,8 @@ fn read_need(value: &[u8], file: &mut JobFile) -> Result<(), u8> {
         return Err(8);
     }
     let need = (giver - 1, taker - 1);
-    if file.needs.contains(&need) {
-        return Err(9);
+    if !file.needs.contains(&need) {
+        file.needs.push(need);
     }
-    file.needs.push(need);
     Ok(())
 }

@@ -12,7 +12,7 @@ use Rattle.rules.specs.JobFile.{isJob}
 use Rattle.jobset.specs.Arrays.{giversIn, takersIn}
 use Rattle.jobfile.specs.declared.Counts.{Counts}
 use Rattle.jobfile.specs.Reading.{State, stateOf, answerOf, countedMore, takeNeed}
-use Rattle.jobfile.specs.NeedWays.{need-refused, need-taken, is-job-in, no-giver, no-taker, same-job, known-in, new-in}
+use Rattle.jobfile.specs.NeedWays.{need-refused, need-taken, is-job-in, no-giver, no-taker, same-job, linked-in}
 use Rattle.jobfile.proofs.take_need.Statement.{statement}
 use Rattle.jobfile.proofs.take_need.Tie as tie
 
@@ -133,22 +133,6 @@ element-copy-out-t21 c = search needs
 with-requires : tie.Need-with-requires
 with-requires c κs = search needs
 
-refused-requires-4 : tie.Need-refused-requires-4
-refused-requires-4 c κs = search needs
-
-returns-4 : tie.Need-returns-4
-returns-4 c =
-    let differ = c .before .before .before .before .before .before in
-    let second = to-second differ in
-    let first = to-first second in
-    let n = to-numbers first in
-    let with-giver = c .before .before .before .before .with .ensures in (
-      λ o. refuse n o _ _ _ 9
-          (known-in (counts n) o (tables n) _ _ (giver-in first) (taker-in second) (differ .if3 .left) _ with-giver (c .before .if4 .taken))
-          (c .refused4 .ensures) (λ z. omega arith),
-      refl,
-    )
-
 mul-tables : tie.Need-mul-tables
 mul-tables c = search needs
 
@@ -179,17 +163,17 @@ element-write-tables-2 c = search needs
 counted-requires : tie.Need-counted-requires
 counted-requires c κs = search needs
 
-returns-5 : tie.Need-returns-5
+returns-4 : tie.Need-returns-4
 unfolding countedMore
-returns-5 c =
-    let differ = c .before .before .before .before .before .before .before .before in
+returns-4 c =
+    let differ = c .before .before .before .before .before in
     let second = to-second differ in
     let first = to-first second in
-    let n = to-numbers first in
-    let with-giver = c .before .before .before .before .before .before .with .ensures in (
+    let n = to-numbers first in (
       λ o. need-taken (counts n) o _ _ _ _ _ _ (n .before .before .wide .ensures) (n .wide2 .ensures) _ _ _ _
-          (new-in (counts n) o (tables n) _ _ (giver-in first) (taker-in second) (differ .if3 .left) _ with-giver (c .before .before .before .if4 .left))
-          (ap (λ (x : Counts). x .number) (c .counted .ensures)) (simp (c .counted .ensures, with-giver, c .before .with2 .ensures)),
+          (linked-in (counts n) o (tables n) _ _ (giver-in first) (taker-in second) (differ .if3 .left))
+          (ap (λ (x : Counts). x .number) (c .counted .ensures))
+          (simp (c .counted .ensures, c .before .before .before .with .ensures, c .before .with2 .ensures)),
       search needs,
     )
 
@@ -216,8 +200,6 @@ take-need-spec =
     mul-t18
     element-copy-out-t21
     with-requires
-    refused-requires-4
-    returns-4
     mul-tables
     element-write-tables
     add-t18
@@ -228,4 +210,4 @@ take-need-spec =
     mul-tables-2
     element-write-tables-2
     counted-requires
-    returns-5)
+    returns-4)

@@ -5,12 +5,12 @@ use Rattle.random_files.proofs.draw.put_file.Statement.{statement}
 use Rattle.random_files.proofs.draw.put_file.Tie as tie
 
 abbrev Inv-loop : tie.InvT-loop
-Inv-loop file₀ sizes extras needs first at₀ k₀ file at k =
-    k ≤ 25
+Inv-loop file₀ sizes extras needs first at₀ steps k₀ file at k =
+    (k ≤ steps) × (steps ≤ 40)
 
 abbrev μ-loop : tie.MeasureT-loop
-μ-loop file₀ sizes extras needs first at₀ k₀ file at k =
-    25 - k
+μ-loop file₀ sizes extras needs first at₀ steps k₀ file at k =
+    steps - k
 
 add-put-jobs : tie.Need-add-put-jobs Inv-loop μ-loop
 add-put-jobs c = search needs
@@ -18,8 +18,14 @@ add-put-jobs c = search needs
 put-jobs-requires : tie.Need-put-jobs-requires Inv-loop μ-loop
 put-jobs-requires c κs = search needs
 
+steps-from-requires : tie.Need-steps-from-requires Inv-loop μ-loop
+steps-from-requires c κs = search needs
+
 loop-holds : tie.Need-loop-holds Inv-loop μ-loop
 loop-holds c = search needs
+
+sockets-at-requires : tie.Need-sockets-at-requires Inv-loop μ-loop
+sockets-at-requires c κs = search needs
 
 add-put-if : tie.Need-add-put-if Inv-loop μ-loop
 add-put-if c = search needs
@@ -47,7 +53,9 @@ put-file-spec =
     μ-loop
     add-put-jobs
     put-jobs-requires
+    steps-from-requires
     loop-holds
+    sockets-at-requires
     add-put-if
     put-if-requires
     add-k

@@ -1,0 +1,52 @@
+-- Needs given twice (document 02, request 6), by computing, of files in bytes. Assumes nothing.
+use mathlib.Core.Path.{_≡_, refl}
+use mathlib.Core.List.{List, [], _∷_}
+use mathlib.Core.Option.{none}
+use Prim.Native.Nat.{ℕ}
+use lib.ListN.{replicate}
+use lib.IntN.{pos}
+use Rattle.rules.specs.Fields.{refused, got}
+use Rattle.rules.specs.JobFile.{readFile}
+use Rattle.cases.specs.Case.{fileOf, Holds}
+use Rattle.cases.specs.Computed.{computed, fileBytes, fileQuestions, wholeCase}
+use Rattle.cases.specs.Cases.{planned, plain}
+
+-- two jobs with the need 1-2 given twice, limit 2
+abbrev oneNeedTwice : List ℕ
+oneNeedTwice = fileOf 2 ((1, 2) ∷ (1, 2) ∷ []) 2
+
+-- "A repeated need counts once": six fields, and one need
+pub read-once : readFile oneNeedTwice ≡ got (record {
+  fields = 6;
+  limit = 2;
+  sockets = 0;
+  jobs = replicate 2 (record { level = pos 0; name = 97 ∷ [] });
+  needs = (0, 1) ∷ [];
+})
+unfolding fileBytes fileQuestions
+read-once = refl
+
+-- so two slots are enough; counted twice, line (3) of program P would ask for a delay, and for three slots
+pub no-tie : Holds (plain oneNeedTwice (planned 2 1 (0 ∷ 1 ∷ []) (1 ∷ 1 ∷ [])))
+unfolding wholeCase
+no-tie = computed tt refl tt
+
+-- 2-3 once more: two givers as without it; starts 0 1 2 satisfy P, which they would not if 2-3 counted twice (line (4))
+pub two-givers : Holds (record {
+  file = fileOf 3 ((1, 3) ∷ (2, 3) ∷ (2, 3) ∷ []) 3;
+  answer = planned 3 2 (0 ∷ 0 ∷ 2 ∷ []) (1 ∷ 2 ∷ 1 ∷ []);
+  width = none;
+  others = (0 ∷ 1 ∷ 2 ∷ []) ∷ [];
+})
+unfolding wholeCase
+two-givers = computed tt refl tt
+
+-- 2-1 is no copy of 1-2, though 1-2 comes again behind it: a circle
+pub both-ways : Holds (plain (fileOf 2 ((1, 2) ∷ (2, 1) ∷ (1, 2) ∷ []) 64) (refused 11))
+unfolding wholeCase
+both-ways = computed tt refl tt
+
+-- question 8 is asked of every need: one of job 0 is none of job 1
+pub of-job-0 : Holds (plain (fileOf 2 ((1, 2) ∷ (0, 2) ∷ []) 64) (refused 8))
+unfolding wholeCase
+of-job-0 = computed tt refl tt
