@@ -1,5 +1,5 @@
 -- Needs that follow from others (document 02, request 5), by computing, of files in bytes: the request's own three needs; a path through a need that is listed
--- itself; needs with no such path beside them; and what is left when the listed ones are struck. Assumes nothing.
+-- itself; each need twice; needs with no such path beside them; and what is left when the listed ones are struck. Assumes nothing.
 use mathlib.Core.Path.{_≡_, refl}
 use mathlib.Core.List.{List, [], _∷_}
 use Prim.Native.Nat.{ℕ}

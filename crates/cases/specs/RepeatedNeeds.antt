@@ -1,13 +1,18 @@
--- Needs given twice (document 02, request 6), by computing, of files in bytes. Assumes nothing.
+-- Needs given twice (document 02, request 6), by computing, of files in bytes; and one that the theorem is applied to. Assumes nothing.
 use mathlib.Core.Path.{_≡_, refl}
-use mathlib.Core.List.{List, [], _∷_}
+use mathlib.Core.List.{List, [], _∷_, _++_}
 use mathlib.Core.Option.{none}
 use Prim.Native.Nat.{ℕ}
+use native.Mathlib.Omega.{arith}
 use lib.ListN.{replicate}
 use lib.IntN.{pos}
 use Rattle.rules.specs.Fields.{refused, got}
 use Rattle.rules.specs.JobFile.{readFile}
+use Rattle.laws.specs.FileParts.{done, more}
+use Rattle.laws.specs.Comments.{comment, SameAnswers}
+use Rattle.laws.specs.RepeatedNeeds.{NeedField, repeat-same}
 use Rattle.cases.specs.Case.{fileOf, Holds}
+use Rattle.cases.specs.Searched.{bytesb, bytes-are}
 use Rattle.cases.specs.Computed.{computed, fileBytes, fileQuestions, wholeCase}
 use Rattle.cases.specs.Cases.{planned, plain}
 
@@ -26,12 +31,26 @@ pub read-once : readFile oneNeedTwice ≡ got (record {
 unfolding fileBytes fileQuestions
 read-once = refl
 
--- so two slots are enough; counted twice, line (3) of program P would ask for a delay, and for three slots
+-- so two slots are enough: one giver is no tie. Counted twice, formula (1) would see a tie, line (3) of program P ask for a delay, and both for three slots
 pub no-tie : Holds (plain oneNeedTwice (planned 2 1 (0 ∷ 1 ∷ []) (1 ∷ 1 ∷ [])))
 unfolding wholeCase
 no-tie = computed tt refl tt
 
--- 2-3 once more: two givers as without it; starts 0 1 2 satisfy P, which they would not if 2-3 counted twice (line (4))
+-- its needs stand at the offsets 20 and 25
+first-need : NeedField oneNeedTwice 20
+unfolding fileBytes fileQuestions
+first-need = record { before = more 0 tt (more 4 tt (more 8 tt (more 14 tt (done 20 refl)))); is-whole = tt; tag-is = refl }
+
+second-need : NeedField oneNeedTwice 25
+unfolding fileBytes fileQuestions
+second-need = record { before = more 0 tt (more 4 tt (more 8 tt (more 14 tt (more 20 tt (done 25 refl))))); is-whole = tt; tag-is = refl }
+
+-- so it gets the answers of the file with a comment of two bytes in place of the second
+pub as-comment : SameAnswers oneNeedTwice (fileOf 2 ((1, 2) ∷ []) 2 ++ comment (7 ∷ 7 ∷ []))
+unfolding fileBytes fileQuestions bytesb
+as-comment = repeat-same oneNeedTwice (bytes-are oneNeedTwice tt) 20 25 first-need second-need (omega arith) refl (7 ∷ 7 ∷ []) refl
+
+-- 2-3 once more: two givers as without it; starts 0 1 2 satisfy P, which they would not if 2-3 counted twice (lines (3) and (4))
 pub two-givers : Holds (record {
   file = fileOf 3 ((1, 3) ∷ (2, 3) ∷ (2, 3) ∷ []) 3;
   answer = planned 3 2 (0 ∷ 0 ∷ 2 ∷ []) (1 ∷ 2 ∷ 1 ∷ []);

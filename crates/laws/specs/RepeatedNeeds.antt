@@ -137,7 +137,7 @@ need-read bs a before inside tag f e r =
 
 -- ---- "the file is planned as if the later field were a comment"
 
--- whole fields xs in which the need with the value v was read, if they are; then that need again or a comment as long, and any bytes
+-- whole fields xs: where they are read, the need with the value v is among what they say; behind them that need again or a comment as long, and any bytes
 module _ (xs zs v w : List ℕ) (fields : Fields xs) (taken : (f : JobFile) → readFrom xs 0 noFields ≡ got f → Taken v f)
     (short : length v < 65536) (as-long : length w ≡ length v) where
   -- both fields say the same
