@@ -22,9 +22,9 @@ use Rattle.rules.specs.Boards.{runsb}
 use Rattle.rules.specs.Table.{Table}
 use Rattle.rules.specs.Answers.{tableOf, tabled, planTable, plan, check}
 use Rattle.rules.specs.Implied.{impliedIn, listImplied}
-use Rattle.laws.specs.Tests.{T-and, T-leb, tests, bool-ext, by-choice}
+use Rattle.laws.specs.Tests.{T-and, T-leb, tests, bool-ext}
 use Rattle.laws.specs.Fields.{got-same, ask-got, after-got, ask-yes, whole-is, after-head, length-value, overFields-end}
-use Rattle.laws.specs.JobFile.{known-is, place-late, place-same}
+use Rattle.laws.specs.JobFile.{known-is, place-late, place-same, added}
 use Rattle.laws.specs.FileParts.{FieldsFrom, done, more, Fields, readFrom, readFrom-step, askField, readFrom-field, readFile-parts, readable-fields}
 
 -- "5 | comment | any bytes, none included"
@@ -174,18 +174,8 @@ module _ (xs ys v : List ℕ) (fields : Fields xs) (short : length (xs ++ (comme
 
 -- a field that is not refused is counted
 one-more : (f e : JobFile) (tag : ℕ) (v : List ℕ) → addField f tag v ≡ got e → e .fields ≡ suc (f .fields)
-unfolding addField addNeed addSockets withLimit withJob withNeed withSockets counted
-one-more f e tag v =
-    by-choice P (eqb tag 2) (λ _. is (withLimit f (at v 0)) refl)
-    (λ _. by-choice P (eqb tag 3) (λ _ q. is (withJob f (jobOf v)) refl (ask-got _ 7 _ e q .1))
-    (λ _. by-choice P (eqb tag 4) (λ _ q. is (withNeed f (at v 0 - 1, at v 1 - 1)) refl (ask-got _ 8 _ e q .1))
-    (λ _. by-choice P (eqb tag 9) (λ _ q. is (withSockets f (at v 0)) refl (ask-got _ 21 _ e q .1)) (λ _. is (counted f) refl))))
-  where
-    P : Answer JobFile → Type 0
-    P r = r ≡ got e → e .fields ≡ suc (f .fields)
-
-    is : (g : JobFile) → g .fields ≡ suc (f .fields) → got g ≡ got e → e .fields ≡ suc (f .fields)
-    is g h q = ap (λ (x : JobFile). x .fields) (sym (got-same g e q)) ∙ h
+unfolding withLimit withJob withNeed withSockets counted
+one-more f e tag v = added (λ x. x .fields ≡ suc (f .fields)) f e tag v refl refl (λ _. refl) refl refl
 
 -- the fields read up to offset a are four bytes each, or two or more
 abbrev Front : ℕ → JobFile → Type 0

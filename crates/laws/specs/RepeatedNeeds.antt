@@ -14,13 +14,13 @@ use Rattle.rules.specs.Numbers.{Bytes}
 use Rattle.rules.specs.Fields.{Answer, refused, got, ask, after, numberOf, part, field, fieldEnd, value, whole}
 use Rattle.rules.specs.Needs.{Need, Gives, one, more, Circle}
 use Rattle.rules.specs.JobFile.{JobFile, knownTag, inPlace, lengthOk, contentOk, counted, withLimit, withSockets, withJob}
-use Rattle.rules.specs.JobFile.{withNeed, jobOf, isJob, addNeed, addSockets, addField, readField, noFields, complete, readFile}
+use Rattle.rules.specs.JobFile.{withNeed, jobOf, isJob, addNeed, addField, readField, noFields, complete, readFile}
 use Rattle.rules.specs.Answers.{plan, check}
 use Rattle.rules.specs.Implied.{impliedIn, Listing, listed, listImplied}
-use Rattle.laws.specs.Tests.{T-leb, T-and, tests, by-test, by-choice, choose-no}
+use Rattle.laws.specs.Tests.{T-leb, T-and, tests, by-test, choose-no}
 use Rattle.laws.specs.Fields.{got-same, ask-got, after-got, after-same, ask-yes, whole-is, after-head, overFields-keeps}
 use Rattle.laws.specs.Needs.{insert-known, insert-keeps, insert-there}
-use Rattle.laws.specs.JobFile.{known-is, place-late, place-same}
+use Rattle.laws.specs.JobFile.{known-is, place-late, place-same, added}
 use Rattle.laws.specs.FileParts.{FieldsTo, Fields, readFrom, readFrom-step, fields-read, read-through, fields-cut, value-front, readFrom-parts, askField}
 use Rattle.laws.specs.FileParts.{readFrom-field}
 use Rattle.laws.specs.FieldsBut.{head-length, field-is}
@@ -44,26 +44,15 @@ record Later (s t : JobFile) : Type 0 where
 
 -- so they are after each field
 add-later : (s f e : JobFile) (tag : ℕ) (v : List ℕ) → Later s f → addField f tag v ≡ got e → Later s e
-unfolding addField addNeed addSockets withLimit withJob withNeed withSockets counted
+unfolding withLimit withJob withNeed withSockets counted
 add-later s f e tag v l =
-    by-choice P (eqb tag 2) (λ _. is (withLimit f (at v 0)) (omega arith) (omega arith) (λ g k m. m))
-    (λ _. by-choice P (eqb tag 3) (λ _ q. is (withJob f (jobOf v)) (omega arith) (omega (arith, length-append (f .jobs) (jobOf v ∷ []))) (λ g k m. m)
-    (ask-got _ 7 _ e q .1))
-    (λ _. by-choice P (eqb tag 4) (λ _ q. is (withNeed f (at v 0 - 1, at v 1 - 1)) (omega arith) (omega arith)
-    (insert-keeps (f .needs) (at v 0 - 1, at v 1 - 1)) (ask-got _ 8 _ e q .1))
-    (λ _. by-choice P (eqb tag 9) (λ _ q. is (withSockets f (at v 0)) (omega arith) (omega arith) (λ g k m. m) (ask-got _ 21 _ e q .1))
-    (λ _. is (counted f) (omega arith) (omega arith) (λ g k m. m)))))
+    added (Later s) f e tag v (on (withLimit f (at v 0)) (omega arith) (omega arith) (λ g k m. m))
+    (on (withJob f (jobOf v)) (omega arith) (omega (arith, length-append (f .jobs) (jobOf v ∷ []))) (λ g k m. m))
+    (λ _. on (withNeed f (at v 0 - 1, at v 1 - 1)) (omega arith) (omega arith) (insert-keeps (f .needs) (at v 0 - 1, at v 1 - 1)))
+    (on (withSockets f (at v 0)) (omega arith) (omega arith) (λ g k m. m)) (on (counted f) (omega arith) (omega arith) (λ g k m. m))
   where
-    P : Answer JobFile → Type 0
-    P r = r ≡ got e → Later s e
-
-    is : (x : JobFile) → f .fields ≤ x .fields → length (f .jobs) ≤ length (x .jobs) → ((g k : ℕ) → Gives (f .needs) g k → Gives (x .needs) g k)
-        → got x ≡ got e → Later s e
-    is x a b c q = subst (Later s) (got-same x e q) record {
-      fields = omega (arith, a, l .fields);
-      jobs = omega (arith, b, l .jobs);
-      needs = λ g k m. c g k (l .needs g k m);
-    }
+    on : (x : JobFile) → f .fields ≤ x .fields → length (f .jobs) ≤ length (x .jobs) → ((g k : ℕ) → Gives (f .needs) g k → Gives (x .needs) g k) → Later s x
+    on x a b c = record { fields = omega (arith, a, l .fields); jobs = omega (arith, b, l .jobs); needs = λ g k m. c g k (l .needs g k m) }
 
 -- and after all fields from offset a on
 read-later : (bs : List ℕ) (a : ℕ) (s t : JobFile) → readFrom bs a s ≡ got t → Later s t
