@@ -31,7 +31,8 @@ pub read-once : readFile oneNeedTwice ≡ got (record {
 unfolding fileBytes fileQuestions
 read-once = refl
 
--- so two slots are enough: one giver is no tie. Counted twice, formula (1) would see a tie, line (3) of program P ask for a delay, and both for three slots
+-- so two slots are enough: one giver is no tie in formula (1), which compares givers, and line (3) of program P, which counts needs, has one to count; of two
+-- it would ask for a delay, and for three slots
 pub no-tie : Holds (plain oneNeedTwice (planned 2 1 (0 ∷ 1 ∷ []) (1 ∷ 1 ∷ [])))
 unfolding wholeCase
 no-tie = computed tt refl tt

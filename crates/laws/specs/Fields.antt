@@ -31,7 +31,7 @@ unfolding after
 after-got (refused q) f b e = absurd (let z : _≡_ {A = ℕ} 0 1 = cc in omega arith)
 after-got (got a) f b e = (a, refl, e)
 
--- the same follows an answer, where it does what was got
+-- what follows an answer is the same, where it is the same for what was got
 pub after-same : {A B : Type 0} (r : Answer A) (f g : A → Answer B) → ((a : A) → r ≡ got a → f a ≡ g a) → after r f ≡ after r g
 unfolding after
 after-same (refused q) f g h = refl

@@ -111,11 +111,15 @@ fields-order bs e _ (more a h rest) = omega (arith, fields-order bs e (fieldEnd 
 -- ---- a file of two parts
 
 module _ (xs zs : List ℕ) where
+  -- a head within the first part says where its field ends, as in that part alone
+  fieldEnd-head : (a : ℕ) → a + 3 ≤ length xs → fieldEnd (xs ++ zs) a ≡ fieldEnd xs a
+  unfolding fieldEnd
+  fieldEnd-head a h = rw (List·getD-append xs zs 0 (a + 1) (omega arith), List·getD-append xs zs 0 (a + 2) (omega arith)) refl
+
   -- a whole field at offset a of the first part: its end, its value and its questions are as in that part alone
   module _ (a : ℕ) (h : T (whole xs a)) where
     fieldEnd-front : fieldEnd (xs ++ zs) a ≡ fieldEnd xs a
-    unfolding fieldEnd
-    fieldEnd-front = let w = whole-is xs a .0 h in rw (List·getD-append xs zs 0 (a + 1) (omega arith), List·getD-append xs zs 0 (a + 2) (omega arith)) refl
+    fieldEnd-front = fieldEnd-head a (whole-is xs a .0 h .0)
 
     whole-front : T (whole (xs ++ zs) a)
     whole-front =
@@ -139,10 +143,7 @@ module _ (xs zs : List ℕ) where
   -- a field that is whole in both together, and ends within the first part, is whole there
   module _ (a : ℕ) (h : T (whole (xs ++ zs) a)) (ends : fieldEnd (xs ++ zs) a ≤ length xs) where
     fieldEnd-cut : fieldEnd xs a ≡ fieldEnd (xs ++ zs) a
-    unfolding fieldEnd
-    fieldEnd-cut =
-        let l = after-head (xs ++ zs) a in
-        rw (List·getD-append xs zs 0 (a + 1) (omega (arith, l, ends)), List·getD-append xs zs 0 (a + 2) (omega (arith, l, ends))) refl
+    fieldEnd-cut = sym (fieldEnd-head a (omega (arith, after-head (xs ++ zs) a, ends)))
 
     whole-cut : T (whole xs a)
     whole-cut = whole-is xs a .1 (omega (arith, after-head (xs ++ zs) a, ends), omega (arith, fieldEnd-cut, ends))
