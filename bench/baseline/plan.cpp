@@ -10,7 +10,7 @@ inline unsigned low(uint64_t set) { return __builtin_ctzll(set); }
 inline unsigned high(uint64_t set) { return 63 - __builtin_clzll(set); }
 inline uint64_t bit(unsigned i) { return uint64_t(1) << i; }
 
-// Questions 3 to 10, and 21.
+// Questions 3 to 8, 10, and 21.
 unsigned read_fields(const uint8_t *file, size_t size, Jobs &out) {
     static const struct { uint16_t least, greatest; } LENGTHS[] = {{1, 1}, {1, 1}, {3, 14}, {2, 2}, {0, 65535}, {1, 1}};
     Tables &t = out.t;

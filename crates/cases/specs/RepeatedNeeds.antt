@@ -1,7 +1,7 @@
 -- Needs given twice (document 02, request 6), by computing, of files in bytes; and one that the theorem is applied to. Assumes nothing.
 use mathlib.Core.Path.{_≡_, refl}
 use mathlib.Core.List.{List, [], _∷_, _++_}
-use mathlib.Core.Option.{none}
+use mathlib.Core.Option.{none, some}
 use Prim.Native.Nat.{ℕ}
 use native.Mathlib.Omega.{arith}
 use lib.ListN.{replicate}
@@ -32,10 +32,15 @@ unfolding fileBytes fileQuestions
 read-once = refl
 
 -- so two slots are enough: one giver is no tie in formula (1), which compares givers, and line (3) of program P, which counts needs, has one to count; of two
--- it would ask for a delay, and for three slots
-pub no-tie : Holds (plain oneNeedTwice (planned 2 1 (0 ∷ 1 ∷ []) (1 ∷ 1 ∷ [])))
+-- it would ask for a delay, and for three slots. The windows hold slot 0 and slot 1; with a tie of a giver with itself both would be empty, and the width 0
+pub no-tie : Holds (record {
+  file = oneNeedTwice;
+  answer = planned 2 1 (0 ∷ 1 ∷ []) (1 ∷ 1 ∷ []);
+  width = some 1;
+  others = [];
+})
 unfolding wholeCase
-no-tie = computed tt refl tt
+no-tie = computed tt refl refl
 
 -- its needs stand at the offsets 20 and 25
 first-need : NeedField oneNeedTwice 20

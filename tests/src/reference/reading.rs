@@ -1,4 +1,4 @@
-//! Reading a job file: questions 2 to 10, without 9, and 21.
+//! Reading a job file: questions 2 to 8, 10, and 21.
 
 /// A job as the file has it.
 #[derive(Clone, Debug, PartialEq)]
