@@ -1,6 +1,7 @@
-"""Job files for measuring: families of needs with limits at, below and above the optimum, and files found by hill climbing.
+"""Job files for measuring: families of needs with limits at, below and above the optimum, families of many jobs, and files found by hill climbing.
 
     generate.py LIBRARY FOLDER small|full
+    generate.py LIBRARY climb STEPS     prints lines for hardcap.txt
 
 LIBRARY is the baseline as a shared library that counts (see run). Every seed is fixed: the same files each time.
 A file's name is FAMILY-JOBS-NUMBER-LIMIT.jobs, LIMIT one of tight (the optimum), below (one less: refusal 13), loose (the
@@ -16,7 +17,10 @@ import sys
 
 SIZES = (8, 16, 32, 48, 64)
 CAPPED_SIZES = (16, 32, 64)
-WORK, TABLE = (ctypes.c_uint8 * 65536)(), (ctypes.c_uint8 * 1222)()
+MANY_SIZES = (64, 100, 200, 400)
+HARD_SIZES = (12, 16, 24, 32, 48, 64, 100, 200, 400)
+WORK_BYTES, TABLE_BYTES = 65536, 7606
+WORK, TABLE = (ctypes.c_uint8 * WORK_BYTES)(), (ctypes.c_uint8 * TABLE_BYTES)()
 
 
 def parts(name):
@@ -34,16 +38,23 @@ def job_fields(n):
     return b"".join(field(3, (37 * i % 3000 - 1500).to_bytes(2, "little", signed=True) + b"j%d" % (i + 1)) for i in range(n))
 
 
+def need_field(giver, taker):
+    """Tag 4 where both numbers fit a byte, else tag 6."""
+    if giver < 256 and taker < 256:
+        return bytes((4, 2, 0, giver, taker))
+    return bytes((6, 4, 0, giver & 255, giver >> 8, taker & 255, taker >> 8))
+
+
 def job_file(n, needs, limit, cap=None):
     boards = field(9, (cap,)) if cap else b""
-    return field(1, (1,)) + field(2, (limit,)) + boards + job_fields(n) + b"".join(bytes((4, 2, 0, g + 1, k + 1)) for g, k in sorted(needs))
+    return field(1, (1,)) + field(2, (limit,)) + boards + job_fields(n) + b"".join(need_field(g + 1, k + 1) for g, k in sorted(needs))
 
 
 class Jobs(ctypes.Structure):
     """As in baseline.h."""
-    _fields_ = [("tables", ctypes.c_uint64 * 260)]
-    _fields_ += [(name, ctypes.c_uint) for name in ("jobs", "boards", "limit", "least", "width", "cap")]
-    _fields_ += [("offsets", ctypes.c_uint16 * 64)]
+    _fields_ = [("held", ctypes.c_uint16 * 64), ("tables", ctypes.c_uint16 * 1221)]
+    _fields_ += [(name, ctypes.c_uint) for name in ("jobs", "limit", "boards", "least", "filled")]
+    _fields_ += [(name, ctypes.c_uint16 * 400) for name in ("offsets", "release", "tail")] + [("places", ctypes.c_uint8 * 400)]
 
 
 # slots, or minus the number of the refusal; states opened, sets tried, the most sets tried in one state
@@ -59,17 +70,29 @@ class Planner:
         self.work = [ctypes.c_uint64.in_dll(self.lib, f"baseline_{what}") for what in ("opened", "tried", "most")]
 
     def plan(self, n, needs, limit, cap=None):
-        data = job_file(n, needs, limit, cap)
+        return self.plan_bytes(job_file(n, needs, limit, cap))
+
+    def plan_bytes(self, data):
         for counter in self.work:
             counter.value = 0
         size = ctypes.c_size_t
-        answer = self.lib.baseline_plan(data, size(len(data)), WORK, size(65536), TABLE, size(1222))
+        answer = self.lib.baseline_plan(data, size(len(data)), WORK, size(WORK_BYTES), TABLE, size(TABLE_BYTES))
         return Planned(TABLE[4] if answer < 65536 else 65536 - answer, *(counter.value for counter in self.work))
 
+    def read(self, data):
+        """The number of the refusal, or 0, and what was read."""
+        jobs = Jobs()
+        return self.lib.baseline_read(data, ctypes.c_size_t(len(data)), WORK, ctypes.byref(jobs)), jobs
+
     def width(self, n, needs, limit):
-        """The width; infinite where the needs have a circle."""
-        data, jobs = job_file(n, needs, limit), Jobs()
-        return math.inf if self.lib.baseline_read(data, ctypes.c_size_t(len(data)), ctypes.byref(jobs)) == 11 else jobs.width
+        """The width; infinite where it is above 8, or the needs have a circle."""
+        number, jobs = self.read(job_file(n, needs, limit))
+        return math.inf if number else max((jobs.held[s].bit_count() for s in range(min(jobs.filled, limit))), default=0)
+
+    def tries(self, data):
+        """Is at least one length tried?"""
+        number, jobs = self.read(data)
+        return number == 0 and jobs.least <= jobs.limit
 
     def limits(self, n, needs, cap=None):
         """The optimum and the loosest limit; nothing where the optimum's width is above 8 or the optimum above 64."""
@@ -101,11 +124,11 @@ def chains(n, rng):
     return needs
 
 
-def layered(n, rng, density):
-    """Layers of 2 to 4 jobs; each pair of neighbouring layers joined by this share of the possible needs, at least one a job."""
+def layered(n, rng, density, least=2, most=4):
+    """Layers of 2 to 4 jobs, or as given; each pair of neighbouring layers joined by this share of the possible needs, at least one a job."""
     layers, at = [], 0
     while at < n:
-        size = min(rng.randint(2, 4), n - at)
+        size = min(rng.randint(least, most), n - at)
         layers.append(range(at, at + size))
         at += size
     needs = set()
@@ -167,6 +190,55 @@ FAMILIES = {
 }
 
 
+def lanes(n, rng, rows):
+    """So many chains beside each other, a job in each slot, and jobs left over, each between two jobs of a chain that are some slots apart; with needs
+    over two slots and more, which leave the windows as they are. The needs, and the slots."""
+    slots = n // rows
+    extras = n - rows * slots
+    needs = {(i - rows, i) for i in range(rows, rows * slots)}
+    for e in range(extras):
+        a, b, lane = slots * e // extras, slots * (e + 1) // extras - 1, rng.randrange(rows)
+        needs |= {(rows * a + lane, rows * slots + e), (rows * slots + e, rows * b + lane)}
+    for _ in range(n // 2):
+        g, k = rng.randrange(n), rng.randrange(n)
+        if max(g, k) < rows * slots and k // rows >= g // rows + 2:
+            needs.add((g, k))
+    return needs, slots
+
+
+def stirred(planner, n, needs, slots, rng):
+    """Needs taken out and put in, as long as there is a plan of so many slots."""
+    for _ in range(2000):
+        again = set(needs)
+        for _ in range(rng.randint(1, 3)):
+            if rng.random() < 0.4 and again:
+                again.discard(rng.choice(sorted(again)))
+            if rng.random() < 0.8:
+                again.add(tuple(rng.sample(range(n), 2)))
+        if len(again) <= 2 * n and planner.plan(n, again, slots).slots > 0:
+            needs = again
+    return needs
+
+
+# the rows of chains by number of jobs, and are the needs stirred
+MANY = {
+    "lanes": (lambda n: 5 if n == 100 else 8, False),
+    "extras": (lambda n: 7, False),
+    "mutated": (lambda n: 7, True),
+}
+
+
+def many(planner, folder, each):
+    for family, (rows, stir) in MANY.items():
+        for n in MANY_SIZES:
+            for number in range(each):
+                rng = random.Random(f"{family} {n} {number}")
+                needs, slots = lanes(n, rng, rows(n))
+                if stir:
+                    needs = stirred(planner, n, needs, slots, rng)
+                (folder / f"{family}-{n}-{number}-tight.jobs").write_bytes(job_file(n, renumbered(n, needs, rng), slots))
+
+
 def family_graphs(planner, each):
     """The first graphs of each family and size that have limits: {(family, jobs): [(needs, optimum, loosest limit)]}."""
     graphs = {}
@@ -223,11 +295,11 @@ def mutated(n, needs, limit, rng):
     return needs, limit
 
 
-def climb(planner, n, rng, steps, start):
+def climb(planner, n, rng, steps, start, cap=None):
     """Needs and a limit with as much work for the search as hill climbing finds."""
     def work(needs, limit):
-        done = planner.plan(n, needs, limit)
-        return 40 * done.opened + 12 * done.tried if done.slots > 0 or done.slots == -13 else -1
+        done = planner.plan(n, needs, limit, cap)
+        return 40 * done.opened + 20 * done.tried if done.slots > 0 or done.slots == -13 else -1
 
     needs, limit = start
     most = work(needs, limit)
@@ -239,41 +311,77 @@ def climb(planner, n, rng, steps, start):
     return needs, limit
 
 
+# for so many jobs: chains, and the jobs in layers beside them
+CROWDED = {200: (2, range(80, 112), (2, 3)), 400: (6, range(30, 60), (1, 2))}
+
+
+def hard_start(planner, n, rng):
+    """Needs and a limit to climb from: layers; with 200 and 400 jobs chains beside them that leave no slot free."""
+    while True:
+        if n not in CROWDED:
+            needs = layered(n, rng, 0.5)
+            limits = planner.limits(n, needs)
+            if limits:
+                return needs, limits[1]
+            continue
+        chained, layers, sizes = CROWDED[n]
+        m = rng.choice(layers)
+        needs, limit = layered(m, rng, 0.5, *sizes), -(-(n - m) // chained)
+        if planner.plan(m, needs, limit).slots > 0:
+            needs |= {(k - chained, k) for k in range(m + chained, n)}
+            if planner.plan(n, needs, limit).slots > 0:
+                return needs, limit
+
+
 def hard(planner, folder, each, steps):
-    for n in (12, 16, 24, 32, 48, 64):
-        for number in range(each):
+    for n in HARD_SIZES:
+        for number in range(1 if n in CROWDED else each):
             rng = random.Random(f"hard {n} {number}")
-            while True:
-                needs = layered(n, rng, 0.5)
-                limits = planner.limits(n, needs)
-                if limits:
-                    break
-            needs, limit = climb(planner, n, rng, steps, (needs, limits[1]))
+            needs, limit = climb(planner, n, rng, steps, hard_start(planner, n, rng))
             (folder / f"hard-{n:02}-{number}-found.jobs").write_bytes(job_file(n, needs, limit))
 
 
-def hard_capped(folder, caps):
-    """The files of hardcap.txt with these caps."""
-    for line in (pathlib.Path(__file__).parent / "hardcap.txt").read_text().splitlines():
-        if not line.startswith("#"):
-            words = line.split()
-            cap, n, limit = (int(word) for word in words[:3])
-            needs = {tuple(int(i) - 1 for i in word.split("-")) for word in words[3:]}
-            if cap in caps:
-                (folder / f"hardcap-{n}-0-found-{cap}.jobs").write_bytes(job_file(n, needs, limit, cap))
+# number of jobs and cap of the hard files of many jobs: as many chains as boards, all of them full
+HARD_CAPPED = ((100, 2), (99, 3), (100, 4), (200, 4), (200, 5), (399, 7))
+
+
+def climb_capped(planner, steps):
+    """Lines for hardcap.txt, of many jobs."""
+    for n, cap in HARD_CAPPED:
+        rng = random.Random(f"hardcap {n} {cap}")
+        needs, limit = climb(planner, n, rng, steps, lanes(n, rng, cap), cap)
+        print(cap, n, limit, *(f"{g + 1}-{k + 1}" for g, k in sorted(needs)), flush=True)
+
+
+def listed(folder, family, caps):
+    """The files that FAMILY.txt lists, those with these caps, as FAMILY-JOBS-NUMBER-found; cap 0 stands for none."""
+    numbers = collections.Counter()
+    for line in (pathlib.Path(__file__).parent / f"{family}.txt").read_text().splitlines():
+        if line.startswith("#"):
+            continue
+        words = line.split()
+        cap, n, limit = (int(word) for word in words[:3])
+        needs = {tuple(int(i) - 1 for i in word.split("-")) for word in words[3:]}
+        number = numbers[cap, n]
+        numbers[cap, n] += 1
+        if cap in caps:
+            (folder / f"{family}-{n}-{number}-found{f'-{cap}' if cap else ''}.jobs").write_bytes(job_file(n, needs, limit, cap))
 
 
 def main():
-    library, folder, size = sys.argv[1:]
-    folder = pathlib.Path(folder)
+    planner = Planner(sys.argv[1])
+    if sys.argv[2] == "climb":
+        return climb_capped(planner, int(sys.argv[3]))
+    folder, size = pathlib.Path(sys.argv[2]), sys.argv[3]
     folder.mkdir(parents=True, exist_ok=True)
-    planner = Planner(library)
     (folder / "deep-64-0-tight.jobs").write_bytes(job_file(64, {(i, i + 1) for i in range(63)}, 64))  # the longest way down
     graphs = family_graphs(planner, 4 if size == "full" else 1)
     families(folder, graphs)
     capped_families(planner, folder, graphs, (2, 3) if size == "full" else (2,))
+    many(planner, folder, 3 if size == "full" else 1)
     hard(planner, folder, 3 if size == "full" else 1, 20000 if size == "full" else 3000)
-    hard_capped(folder, range(1, 8) if size == "full" else (2,))
+    listed(folder, "hardcap", range(1, 8) if size == "full" else (2,))
+    listed(folder, "dear", range(0, 8))
 
 
 if __name__ == "__main__":

@@ -27,6 +27,8 @@ def name_of(path):
 
 def counted(folder, drive, paths):
     """Instructions of each call, and how many of them are in memset: {file: {call: [all, memset]}}."""
+    if len(paths) > 60:  # so that no folder of dumps grows large
+        return counted(folder, drive, paths[:60]) | counted(folder, drive, paths[60:])
     dumps = f"{folder}/dumps"
     shutil.rmtree(dumps, ignore_errors=True)
     os.mkdir(dumps)
@@ -47,8 +49,8 @@ def counts(folder):
 
 
 def before(folder):
-    """The instructions with the archive before, on the files that it can read: those without a cap."""
-    return counted(folder, "drive-before", [path for path in files(folder) if not generate.parts(name_of(path))[-1]])
+    """The instructions with the archives from before CR 8, on the files that they can read: those of at most 64 jobs."""
+    return counted(folder, "drive-before", [path for path in files(folder) if generate.parts(name_of(path))[1] <= 64])
 
 
 def own_costs(dump):
@@ -92,26 +94,52 @@ def timed(folder, path, name, problem):
     return answer, min(others), min(process(folder, path) for _ in range(RUNS))
 
 
-def frame(folder):
-    """Bytes of stack of one level of explore, from its machine code, and of the search around it."""
-    archive = f"{folder}/alone/target/staticlib/libsearch_alone.a"
-    code = subprocess.run(["objdump", "-d", "--no-show-raw-insn", archive], capture_output=True, text=True, check=True).stdout
-    result = {}
-    for function in ("explore::explore", "product_search"):
-        body = code.split(f"<{function}>:\n", 1)[1].split("\n\n", 1)[0]
-        before = body.split("call", 1)[0]
-        saved = len(re.findall(r"push +%r(?:bp|bx|1[2-5])\n", before.split("%rsp", 1)[0] + "\n"))
-        local = int(re.search(r"sub +\$0x([0-9a-f]+),%rsp", before).group(1), 16)
-        passed = max([int(x, 16) for x in re.findall(r"add +\$0x([0-9a-f]+),%rsp", body) if int(x, 16) != local] or [0])
-        result[function] = 8 + 8 * saved + local + passed
-    return result
+LEVELS = 65  # of the recursion: one for each slot of a plan, and the one behind the last
+RED_ZONE = 128  # bytes below its frame that a function which calls none may use
+
+
+class Frames:
+    """Bytes of stack by the machine code of an archive: every call, and the recursion as often as there are levels."""
+
+    def __init__(self, archive):
+        code = subprocess.run(["objdump", "-d", "-r", "--no-show-raw-insn", archive], capture_output=True, text=True, check=True).stdout
+        self.own, self.calls = {}, {}
+        for part in re.split(r"\n(?=[0-9a-f]{16} <)", code)[1:]:
+            name, body = re.match(r"[0-9a-f]+ <(.*)>:\n", part).group(1), part.split("\n", 1)[1]
+            entry = re.split(r"\n.*\b(?:call|jmp) ", body)[0]  # it saves registers and takes its room here
+            if re.search(r"\bcall +\*|,%rsp\b", re.sub(r"\b(?:sub|add) +\$0x[0-9a-f]+,%rsp", "", body)):
+                sys.exit(f"{archive}: the stack of {name} cannot be read from its code")
+            self.calls[name] = set(re.findall(r"R_X86_64_PLT32\s+(?:\.text\.)?([\w:.]+)", body)) | set(re.findall(r"\bcall +0 <([\w:.]+)>", body))
+            saved = len(re.findall(r"\bpush +%", entry))
+            local = sum(int(x, 16) for x in re.findall(r"\bsub +\$0x([0-9a-f]+),%rsp", entry))
+            room = local + 8 * len(re.findall(r"\bpush +%rax\b", entry))  # given back at once
+            passed = max([int(x, 16) for x in re.findall(r"\badd +\$0x([0-9a-f]+),%rsp", body) if int(x, 16) != room] or [0])
+            self.own[name] = 8 + 8 * saved + local + passed + (0 if self.calls[name] else RED_ZONE)
+
+    def below(self, name):
+        """The most that a call of the function takes."""
+        if name not in self.own:
+            return 8 + RED_ZONE  # memset and memcpy
+        others = max([self.below(called) for called in self.calls[name] if called != name] or [0])
+        return (LEVELS if name in self.calls[name] else 1) * self.own[name] + others
+
+    def level(self):
+        """One level of the recursion."""
+        return max(self.own[name] for name in self.own if name in self.calls[name])
+
+
+def archives(folder):
+    alone = f"{folder}/alone/target/staticlib/libsearch_alone.a"
+    return Frames(alone), Frames(f"{folder}/libgate.a")
 
 
 def stack(folder):
-    """The deepest byte of stack that each call reaches: {file: [search, whole, baseline search, baseline whole]}, and the frames."""
+    """The deepest byte of stack that each call reaches: {file: [search, whole, check, lookup, baseline search, baseline whole]}, and the most by the code."""
     out = subprocess.run([f"{folder}/drive-g++", "stack"] + files(folder), capture_output=True, text=True, check=True).stdout
     rows = [line.split() for line in out.splitlines()]
-    return {"frames": frame(folder), "deepest": {name_of(row[0]): [int(x) for x in row[1:]] for row in rows}}
+    alone, gate = archives(folder)
+    most = {"level": alone.level(), "search": alone.below("product_search")} | {what: gate.below(f"gate_{what}") for what in ("plan", "check", "lookup", "name_at")}
+    return {"frames": most, "deepest": {name_of(row[0]): [int(x) for x in row[1:]] for row in rows}}
 
 
 def product_answer(folder, path):
@@ -120,9 +148,10 @@ def product_answer(folder, path):
 
 
 def solver_files(folder):
-    """The first of each kind, all of 64 jobs, and the hard ones; with a cap those at the optimum, and the hard ones."""
+    """Of the files of at most 64 jobs the first of each kind, all of 64 jobs, and the hard ones; with a cap those at the optimum, and the hard ones."""
     capped = r"hardcap|\w+-\d+-\d+-tight-\d"
-    return [f for f in files(folder) if re.match(capped if generate.parts(name_of(f))[-1] else r"hard|deep|\w+-64-|\w+-\d+-0-", name_of(f))]
+    small = [f for f in files(folder) if generate.parts(name_of(f))[1] <= 64]
+    return [f for f in small if re.match(capped if generate.parts(name_of(f))[-1] else r"hard|deep|\w+-64-|\w+-\d+-0-", name_of(f))]
 
 
 def run_solvers(folder):

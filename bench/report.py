@@ -1,4 +1,5 @@
-"""report.py FOLDER DOCS: the tables of DOCS/BENCHMARKS.md, between its markers, and DOCS/benchmarks.svg, from FOLDER/*.json."""
+"""report.py FOLDER DOCS: the tables of DOCS/BENCHMARKS.md, between its markers, and DOCS/benchmarks.svg, from FOLDER/*.json. Without before.json or
+solvers.json the tables that need them stay as they are."""
 import json
 import math
 import pathlib
@@ -10,7 +11,8 @@ import generate
 import solvers
 from generate import parts
 
-FAMILIES = list(generate.FAMILIES)
+FAMILIES, MANY = list(generate.FAMILIES), list(generate.MANY)
+KB = 1000
 
 
 def table(head, rows):
@@ -25,20 +27,21 @@ def count(n):
 class Data:
     def __init__(self, folder):
         self.folder = folder
-        for what in ("counts", "times", "stack", "solvers"):
-            setattr(self, what, json.loads(pathlib.Path(f"{folder}/{what}.json").read_text()))
+        for what in ("counts", "times", "stack", "solvers", "before"):
+            path = pathlib.Path(f"{folder}/{what}.json")
+            setattr(self, what, json.loads(path.read_text()) if path.exists() else None)
         self.planner = generate.Planner(f"{folder}/count.so")
-        before = pathlib.Path(f"{folder}/before.json")
-        self.before = json.loads(before.read_text()) if before.exists() else None
         self.product = self.counts["g++"]
-        # files that search: some length is tried, so the bitmap is cleared
-        searched = [f for f in sorted(self.product) if self.lengths(f) > 0]
+        self.files = sorted(self.product, key=lambda f: (parts(f)[0], parts(f)[1], f))
+        # files that search: some length is tried
+        searched = [f for f in self.files if self.planner.tries(self.bytes(f))]
         self.searched, self.capped = [f for f in searched if not parts(f)[4]], [f for f in searched if parts(f)[4]]
-        self.asked, self.asked_capped = [f for f in self.solvers["runs"] if not parts(f)[4]], [f for f in self.solvers["runs"] if parts(f)[4]]
 
-    def lengths(self, f):
-        """Bytes that the search clears beyond its own arrays, as instructions."""
-        return self.product[f]["search"][1] - 100 if "search" in self.product[f] else 0
+    def bytes(self, f):
+        return pathlib.Path(f"{self.folder}/files/{f}.jobs").read_bytes()
+
+    def cost(self, f, call):
+        return self.product[f][call][0]
 
     def base(self, f, call):
         """The baseline's instructions: the better of the two compilers, for this file."""
@@ -54,30 +57,84 @@ class Data:
         """The families and caps of the capped files, without the hard ones."""
         return sorted({(parts(f)[4], FAMILIES.index(parts(f)[0])) for f in self.capped if parts(f)[0] in FAMILIES})
 
+    def many(self, family, n, call):
+        """The instructions of the call on each file of that family and number of jobs."""
+        return [self.cost(f, call) for f in self.files if parts(f)[:2] == (family, n)]
+
     def ratio(self, files, call, against):
-        return sum(self.product[f][call][0] for f in files) / sum(self.base(f, against) for f in files) if files else None
+        return sum(self.cost(f, call) for f in files) / sum(self.base(f, against) for f in files) if files else None
+
+    def ratios(self, files):
+        """The search over the baseline's, for each file."""
+        return [self.cost(f, "search") / self.base(f, "baseline-search") for f in files]
+
+    def grown(self, files, call, *also):
+        """The call, and what is counted with it, over the call before, for each file where both were made."""
+        files = [f for f in files if f in self.before and call in self.before[f]]
+        return {f: sum(self.cost(f, x) for x in (call, *also)) / self.before[f][call][0] for f in files}
 
 
 def ratio_cell(x):
     return "-" if x is None else f"{x:.2f}"
 
 
+def spread(values, digits=3):
+    """Median and range."""
+    values = list(values)
+    return f"{statistics.median(values):.{digits}f} ({min(values):.{digits}f} to {max(values):.{digits}f})" if values else "-"
+
+
 def search_table(d):
     rows = []
-    for family in FAMILIES + ["deep", "hard"]:
+    for family in FAMILIES + MANY + ["deep", "hard", "dear"]:
         files = d.of(family)
-        each = [d.product[f]["search"][0] / d.base(f, "baseline-search") for f in files]
-        clear = statistics.median(d.product[f]["search"][1] / d.product[f]["search"][0] for f in files)
-        row = [family, len(files), count(sum(d.product[f]["search"][0] for f in files)), count(sum(d.base(f, "baseline-search") for f in files))]
+        each = d.ratios(files)
+        clear = statistics.median(d.product[f]["search"][1] / d.cost(f, "search") for f in files)
+        row = [family, len(files), count(sum(d.cost(f, "search") for f in files)), count(sum(d.base(f, "baseline-search") for f in files))]
         row += [f"{d.ratio(files, 'search', 'baseline-search'):.3f}", f"{min(each):.3f} to {max(each):.3f}", f"{100 * clear:.0f} %"]
         rows.append(row + [f"{sum(x <= 1 for x in each)} of {len(each)}"])
     return table(["family", "files that search", "product", "baseline", "ratio of the sums", "ratios of single files", "of it clearing (median)", "files at most 1"], rows)
 
 
 def grid(d, call, against):
-    sizes = generate.SIZES
-    rows = [[family] + [ratio_cell(d.ratio(d.of(family, n), call, against)) for n in sizes] for family in FAMILIES]
+    sizes = sorted({*generate.SIZES, *generate.MANY_SIZES})
+    rows = [[family] + [ratio_cell(d.ratio(d.of(family, n), call, against)) for n in sizes] for family in FAMILIES + MANY]
     return table(["family"] + [f"{n} jobs" for n in sizes], rows)
+
+
+def before_groups(d):
+    """The files of at most 64 jobs, in groups."""
+    small = [f for f in d.files if f in d.before]
+    for n in generate.SIZES:
+        yield f"families, {n} jobs", [f for f in small if parts(f)[0] in FAMILIES and parts(f)[1] == n and not parts(f)[4]]
+    yield "families with a cap", [f for f in small if parts(f)[0] in FAMILIES and parts(f)[4]]
+    yield "families of many jobs, 64 jobs, and deep", [f for f in small if parts(f)[0] in MANY + ["deep"]]
+    yield "hard", [f for f in small if parts(f)[0] == "hard"]
+    yield "hard with a cap", [f for f in small if parts(f)[0] == "hardcap"]
+    yield "all of these", [f for f in small if parts(f)[0] != "dear"]
+    yield "dear", [f for f in small if parts(f)[0] == "dear" and not parts(f)[4]]
+    yield "dear with a cap", [f for f in small if parts(f)[0] == "dear" and parts(f)[4]]
+
+
+def before_table(d):
+    rows = []
+    for name, files in before_groups(d):
+        searching = [f for f in files if f in d.searched or f in d.capped]
+        search, both, whole = d.grown(searching, "search"), d.grown(searching, "search", "tables"), d.grown(files, "whole")
+        row = [name, len(search), spread(search.values()), sum(x > 1 for x in search.values()), f"{statistics.median(both.values()):.3f}"]
+        rows.append(row + [len(whole), spread(whole.values()), sum(x > 1.1 for x in whole.values())])
+    return table(["files", "that search", "search / before, median (range)", "above 1", "search and tables / search before, median", "all", "whole call / before, median (range)", "above 1.10"], rows)
+
+
+def check_table(d):
+    rows = []
+    for call in ("check", "lookup"):
+        for n in generate.SIZES:
+            files = [f for f in d.before if parts(f)[1] == n and parts(f)[0] != "dear" and call in d.before[f]]
+            mine, old = [d.cost(f, call) for f in files], [d.before[f][call][0] for f in files]
+            row = [call, n, len(files), f"{statistics.median(mine):,.0f} ({min(mine):,} to {max(mine):,})", f"{statistics.median(old):,.0f} ({min(old):,} to {max(old):,})"]
+            rows.append(row + [spread(d.grown(files, call).values(), 2)])
+    return table(["call", "rows", "tables", "instructions, median (range)", "before", "ratio of each, median (range)"], rows)
 
 
 def whole_table(d):
@@ -85,82 +142,87 @@ def whole_table(d):
     for n in generate.SIZES:
         files = [f for family in FAMILIES for f in d.of(family, n)]
         rows.append([f"{n} jobs"] + whole_cells(d, files))
-    return table(["files", "number", "whole / baseline's search, median (range)", "the baseline's own whole / its search, median", "whole / baseline's whole, median", "at most 2"], rows + [["hard"] + whole_cells(d, d.of("hard"))])
+    for n in generate.MANY_SIZES:
+        rows.append([f"{n} jobs, families of many"] + whole_cells(d, [f for family in MANY for f in d.of(family, n)]))
+    return table(["files", "number", "instructions, median", "whole / baseline's whole, median (range)", "whole / baseline's search, median (range)", "the baseline's own whole / its search, median", "at most 2"], rows + [["hard"] + whole_cells(d, d.of("hard"))])
 
 
 def whole_cells(d, files):
-    mine = [d.product[f]["whole"][0] / d.base(f, "baseline-search") for f in files]
+    mine = [d.cost(f, "whole") / d.base(f, "baseline-search") for f in files]
     own = statistics.median(d.base(f, "baseline-whole") / d.base(f, "baseline-search") for f in files)
-    both = statistics.median(d.product[f]["whole"][0] / d.base(f, "baseline-whole") for f in files)
+    both = spread([d.cost(f, "whole") / d.base(f, "baseline-whole") for f in files], 2)
     met = f"{sum(x <= 2 for x in mine)} of {len(mine)}"
-    return [len(files), f"{statistics.median(mine):.1f} ({min(mine):.1f} to {max(mine):.1f})", f"{own:.1f}", f"{both:.2f}", met]
+    return [len(files), f"{statistics.median(d.cost(f, 'whole') for f in files):,.0f}", both, spread(mine, 1), f"{own:.1f}", met]
+
+
+def many_table(d):
+    rows = []
+    for call in ("whole", "search", "check", "lookup"):
+        for family in MANY:
+            each = [statistics.median(d.many(family, n, call)) for n in generate.MANY_SIZES]
+            rows.append([{"whole": "whole call"}.get(call, call), family] + [f"{x:,.0f}" for x in each] + [f"{each[-1] / each[0]:.2f}", f"{most_grown(d, family, call):.2f}"])
+    return table(["call", "family"] + [f"{n} jobs" for n in generate.MANY_SIZES] + ["400 / 64", "the greatest of 400 / the least of 64"], rows)
+
+
+def most_grown(d, family, call):
+    return max(d.many(family, 400, call)) / min(d.many(family, 64, call))
 
 
 def planned(d, f):
     """The file's limit, the answer, and the baseline's work for it."""
-    jobs, needs, limit, cap = solvers.parse(pathlib.Path(f"{d.folder}/files/{f}.jobs").read_bytes())
-    work = d.planner.plan(jobs, {(g - 1, k - 1) for g, k in needs}, limit, cap)
-    return limit, f"{work.slots} slots" if work.slots > 0 else f"refused {-work.slots}", work
+    data = d.bytes(f)
+    work = d.planner.plan_bytes(data)
+    return solvers.parse(data)[2], f"{work.slots} slots" if work.slots > 0 else f"refused {-work.slots}", work
+
+
+def hard_rows(d, files, whole=False):
+    """A row for each file; `whole` adds the whole call over the one before."""
+    rows = []
+    for f in files:
+        limit, answer, work = planned(d, f)
+        search, base = d.cost(f, "search"), d.base(f, "baseline-search")
+        old = d.before[f]["search"][0] if d.before and f in d.before else None
+        row = [f, limit, answer, count(work.opened), count(work.tried), work.most, count(search), count(base), f"{search / base:.3f}"]
+        row += [count(old) if old else "-", f"{search / old:.3f}" if old else "-", count(d.cost(f, "whole"))]
+        rows.append(row + ([f"{d.cost(f, 'whole') / d.before[f]['whole'][0]:.3f}"] if whole else []))
+    return table(["file", "limit", "answer", "states opened", "sets looked at", "most in one state", "product's search", "baseline's", "ratio", "search before", "ratio", "whole call"] + (["whole call / before"] if whole else []), rows)
 
 
 def hard_table(d):
-    rows = []
-    for f in d.of("hard"):
-        limit, answer, work = planned(d, f)
-        search, base = d.product[f]["search"][0], d.base(f, "baseline-search")
-        rows.append([f, limit, answer, work.opened, work.tried, count(search), count(base), f"{search / base:.3f}", f"{d.product[f]['whole'][0] / base:.2f}"])
-    return table(["file", "limit", "answer", "states opened", "sets tried", "product's search", "baseline's", "ratio", "whole / baseline's search"], rows)
+    return hard_rows(d, d.of("hard"))
+
+
+def dear_table(d):
+    files = [f for f in d.searched + d.capped if parts(f)[0] == "dear"]
+    return hard_rows(d, sorted(files, key=lambda f: (bool(parts(f)[4]), parts(f)[1])), True)
 
 
 def capped_table(d):
     rows = []
     for cap, family in d.capped_kinds():
         files = d.capped_of(FAMILIES[family], cap)
-        each = [d.product[f]["search"][0] / d.base(f, "baseline-search") for f in files]
-        row = [FAMILIES[family], cap, len(files), count(sum(d.product[f]["search"][0] for f in files)), count(sum(d.base(f, "baseline-search") for f in files))]
+        each = d.ratios(files)
+        row = [FAMILIES[family], cap, len(files), count(sum(d.cost(f, "search") for f in files)), count(sum(d.base(f, "baseline-search") for f in files))]
         rows.append(row + [f"{d.ratio(files, 'search', 'baseline-search'):.3f}", f"{min(each):.3f} to {max(each):.3f}", f"{sum(x <= 1 for x in each)} of {len(each)}"])
     return table(["family", "cap", "files that search", "product", "baseline", "ratio of the sums", "ratios of single files", "files at most 1"], rows)
 
 
 def hard_capped(d):
-    return sorted((f for f in d.capped if parts(f)[0] == "hardcap"), key=lambda f: (parts(f)[4], parts(f)[1]))
+    return sorted((f for f in d.capped if parts(f)[0] == "hardcap"), key=lambda f: (parts(f)[4], parts(f)[1], f))
 
 
 def hard_capped_table(d):
-    rows = []
-    for f in hard_capped(d):
-        limit, answer, work = planned(d, f)
-        search, base = d.product[f]["search"][0], d.base(f, "baseline-search")
-        rows.append([f, parts(f)[4], limit, answer, count(work.opened), count(work.tried), work.most, count(search), count(base), f"{search / base:.3f}"])
-    return table(["file", "cap", "limit", "answer", "states opened", "sets looked at", "most in one state", "product's search", "baseline's", "ratio"], rows)
+    return hard_rows(d, hard_capped(d))
 
 
-def turns(members, cap):
-    """How many sets a full slot with so many candidates looks at."""
-    whole = (1 << members) - 1
-
-    def upper(tried):
-        while tried.bit_count() > cap:
-            tried &= tried - 1
-        return tried
-
-    tried, looked = upper(whole), 1
-    while tried:
-        below = (tried - 1) & whole
-        tried, looked = tried & (tried - 1) if below.bit_count() < cap else upper(below), looked + 1
-    return looked
-
-
-def capped_worst(d):
-    worst = max(hard_capped(d), key=lambda f: d.product[f]["search"][0])
-    looked = {cap: turns(8, cap) for cap in range(1, 8)}
-    most = max(looked, key=looked.get)
-    return (
-        f"The worst found is {worst}: {count(d.product[worst]['search'][0])} instructions of the search, {count(d.product[worst]['whole'][0])} of the whole call"
-        f" ({1000 * d.times[worst][0]:.2f} ms).\n"
-        f"A full slot looks at no more than {looked[most]} sets, with cap {most} and eight candidates, the most that a slot has"
-        f" ({', '.join(f'cap {cap}: {n}' for cap, n in looked.items() if cap != most)}); one that is not full, as without a cap, at the 256 sets of eight tied jobs."
-    )
+def worst(d):
+    lines = []
+    for what, files in (("without a cap", d.of("hard")), ("with a cap", hard_capped(d))):
+        for size, some in (("at most 64 jobs", [f for f in files if parts(f)[1] <= 64]), ("100 jobs and more", [f for f in files if parts(f)[1] > 64])):
+            if some:
+                f = max(some, key=lambda f: d.cost(f, "search"))
+                lines.append([what, size, f, count(d.cost(f, "search")), count(d.cost(f, "whole")), f"{1000 * d.times[f][0]:.3f}"])
+    return table(["files", "jobs", "the worst found", "search", "whole call", "whole call, ms"], lines)
 
 
 def solver_ratios(d, name, files, whole):
@@ -201,108 +263,146 @@ def capped_solver_table(d):
     return table(["files", "solver", "number", "no answer in time", "median CPU, ms", "median ratio net of start-up", "least ratio, start-up included", "files at least 10"], rows)
 
 
+def stack_rows(d):
+    """What, bytes by the code, bytes measured, limit."""
+    most, deepest = d.stack["frames"], d.stack["deepest"]
+    reached = [max(row[i] for row in deepest.values()) for i in range(6)]
+    return [["search", most["search"], reached[0], 12 * KB], ["planner, whole call", most["plan"], reached[1], 24 * KB], ["check", most["check"], reached[2], 32 * KB], ["lookup", most["lookup"], reached[3], None]], reached
+
+
 def stack_table(d):
-    frames, deepest = d.stack["frames"], d.stack["deepest"]
-    level, around = frames["explore::explore"], frames["product_search"]
-    deep = deepest["deep-64-0-tight"]
-    most = [max(row[i] for row in deepest.values()) for i in range(4)]
-    rows = [["one level of explore, from the machine code", level, ""], ["the search around it, from the machine code", around, ""]]
-    rows.append(["search at most: 65 levels and the search", count(65 * level + around), "16,384"])
-    rows.append(["search, measured: the chain of 64", count(deep[0]), "16,384"])
-    rows.append(["search, measured: the most over all files", count(most[0]), "16,384"])
-    rows.append(["whole call, measured: the most over all files", count(most[1]), "none"])
-    rows.append(["baseline's search and whole call, measured", f"{count(most[2])} and {count(most[3])}", ""])
-    return table(["what", "bytes", "limit"], rows + [["lent: working buffer and table", "65,536 and 1,222", ""]])
+    rows, reached = stack_rows(d)
+    rows = [[what, count(code), count(seen), count(limit) if limit else "none"] for what, code, seen, limit in rows]
+    rows.append(["of the search: one level of the recursion", count(d.stack["frames"]["level"]), "", ""])
+    rows.append(["baseline: search, whole call", "", f"{count(reached[4])}, {count(reached[5])}", ""])
+    return table(["what", "at most, by the machine code", "measured: the most over all files", "limit"], rows + [["lent: working buffer, table", "65,536, 7,606", "", ""]])
+
+
+def verdict(ok):
+    return "met" if ok else "NOT met"
+
+
+def before_goals(d):
+    """Medians are of the files that were not climbed to for being dear against the search before; no file, of these too."""
+    files = [f for f in d.files if parts(f)[0] != "dear"]
+    search, whole = d.grown(d.searched + d.capped, "search"), d.grown(d.files, "whole")
+    check, lookup = d.grown(files, "check"), d.grown(files, "lookup")
+    plain = lambda ratios: [ratios[f] for f in ratios if parts(f)[0] != "dear"]
+
+    def above(ratios, most):
+        cells = []
+        for name, some in (("", [f for f in ratios if parts(f)[0] != "dear"]), ("dear ", [f for f in ratios if parts(f)[0] == "dear"])):
+            worst = max(some, key=ratios.get)
+            cells.append(f"{sum(ratios[f] > most for f in some)} of {len(some)} {name}files above, the greatest {worst} {ratios[worst]:.3f}")
+        return "; ".join(cells)
+
+    of_64 = [f for f in lookup if parts(f)[1] == 64]
+    most = max(d.cost(f, "lookup") for f in of_64)
+    return [
+        ["up to 64 jobs, search: at most 0.85 of before, median", f"{len(plain(search))} files: {spread(plain(search))}", verdict(statistics.median(plain(search)) <= 0.85)],
+        ["up to 64 jobs, search: no file above 1.0 of before", above(search, 1), verdict(max(search.values()) <= 1)],
+        ["up to 64 jobs, whole call: at most 1.0 of before, median", f"{len(plain(whole))} files: {spread(plain(whole))}", verdict(statistics.median(plain(whole)) <= 1)],
+        ["up to 64 jobs, whole call: no file above 1.10 of before", above(whole, 1.1), verdict(max(whole.values()) <= 1.1)],
+        ["lookup in 64 rows: at most half of 19,000, and of before", f"{len(of_64)} tables: at most {count(most)}; {spread([lookup[f] for f in of_64], 2)} of before", verdict(most <= 9500 and max(lookup[f] for f in of_64) <= 0.5)],
+        ["check of 64 rows: at most half of before", f"{spread([check[f] for f in of_64], 2)}; {sum(check[f] > 0.5 for f in of_64)} of {len(of_64)} tables above", verdict(max(check[f] for f in of_64) <= 0.5)],
+    ]
 
 
 def goal_table(d):
-    base = lambda f: d.base(f, "baseline-search")
-    sums = {family: d.ratio(d.of(family), "search", "baseline-search") for family in FAMILIES}
-    hard = d.of("hard")
-    families = [f for family in FAMILIES for f in d.of(family)]
-    single = sum(d.product[f]["search"][0] <= base(f) for f in families)
-    easy_hard = sum(d.product[f]["search"][0] <= base(f) for f in hard)
-    twice = [f for f in d.searched if d.product[f]["whole"][0] <= 2 * base(f)]
+    sums = {family: d.ratio(d.of(family), "search", "baseline-search") for family in FAMILIES + MANY}
+    caps = {(FAMILIES[family], cap): d.ratio(d.capped_of(FAMILIES[family], cap), "search", "baseline-search") for cap, family in d.capped_kinds()}
+    hard, hard_caps = d.ratios(d.of("hard")), d.ratios(hard_capped(d))
+    single = d.ratios([f for family in FAMILIES + MANY for f in d.of(family)])
+    twice = [f for f in d.searched if d.cost(f, "whole") <= 2 * d.base(f, "baseline-search")]
+    grown = {call: {family: most_grown(d, family, call) for family in MANY} for call in ("whole", "check", "lookup")}
+    each = lambda call: ", ".join(f"{family} {x:.2f}" for family, x in grown[call].items())
+    rows = before_goals(d) if d.before else []
+    rows += [
+        ["search: no more than the baseline's, each family's sum", f"{sum(x <= 1 for x in sums.values())} of {len(sums)} families, the greatest {max(sums.values()):.3f}; single files {sum(x <= 1 for x in single)} of {len(single)}", verdict(max(sums.values()) <= 1)],
+        ["search: no more than the baseline's, each hard file", f"{sum(x <= 1 for x in hard)} of {len(hard)}, the greatest {max(hard):.3f}", verdict(max(hard) <= 1)],
+        ["search with a cap: no more than the baseline's, each family's sum", f"{sum(x <= 1 for x in caps.values())} of {len(caps)} sums, the greatest {max(caps.values()):.3f}", verdict(max(caps.values()) <= 1)],
+        ["search with a cap: no more than the baseline's, each hard file", f"{sum(x <= 1 for x in hard_caps)} of {len(hard_caps)}, the greatest {max(hard_caps):.3f}", verdict(max(hard_caps) <= 1)],
+        ["whole call: a file of 400 jobs at most 8 times one of 64", each("whole"), verdict(max(grown["whole"].values()) <= 8)],
+        ["check: 400 rows at most 7 times 64", each("check"), verdict(max(grown["check"].values()) <= 7)],
+        ["lookup: 400 rows at most 7 times 64", each("lookup"), verdict(max(grown["lookup"].values()) <= 7)],
+    ]
+    for what, code, seen, limit in stack_rows(d)[0]:
+        if limit:
+            rows.append([f"stack, {what}: at most {limit // KB} KB", f"{count(code)} bytes by the machine code, {count(seen)} measured", verdict(max(code, seen) <= limit)])
+    rows.append(["whole call: at most twice the baseline's search (a goal from before CR 8)", f"{len(twice)} of {len(d.searched)} files", verdict(len(twice) == len(d.searched))])
+    return table(["goal", "measured", ""], rows)
+
+
+def solver_goal_table(d):
     asked = [name for name in solvers.SOLVERS if not solvers.SOLVERS[name][-1]]
     wide = [f for f in d.asked if parts(f)[1] == 64]
     medians = {name: statistics.median(solver_ratios(d, name, wide, False)) for name in asked}
     least = {name: min(solver_ratios(d, name, d.asked, True)) for name in asked}
-    level, around = d.stack["frames"]["explore::explore"], d.stack["frames"]["product_search"]
-    caps = [d.ratio(d.capped_of(FAMILIES[family], cap), "search", "baseline-search") for cap, family in d.capped_kinds()]
-    hard_caps = [d.product[f]["search"][0] / base(f) for f in hard_capped(d)]
-    verdict = lambda ok: "met" if ok else "NOT met"
-    rows = [
-        ["search: no more than the baseline's, each family's sum", f"{sum(x <= 1 for x in sums.values())} of {len(sums)} families; single files {single} of {len(families)}", verdict(max(sums.values()) <= 1)],
-        ["search: no more than the baseline's, each hard file", f"{easy_hard} of {len(hard)}", verdict(easy_hard == len(hard))],
-        ["search with a cap: no more than the baseline's, each family's sum and each hard file", f"{sum(x <= 1 for x in caps)} of {len(caps)} sums; hard files {sum(x <= 1 for x in hard_caps)} of {len(hard_caps)}", verdict(max(caps + hard_caps) <= 1)],
-        ["whole call: at most twice the baseline's search", f"{len(twice)} of {len(d.searched)} files", verdict(len(twice) == len(d.searched))],
+    return table(["goal", "measured", ""], [
         ["200 times less CPU, net, median of 64 jobs", ", ".join(f"{k} {v:,.0f}" for k, v in medians.items()), verdict(min(medians.values()) >= 200)],
         ["10 times less CPU, start-up included, every file", "least: " + ", ".join(f"{k} {v:.1f}" for k, v in least.items()), verdict(min(least.values()) >= 10)],
-        ["stack of the search at most 16 KiB", f"{count(65 * level + around)} bytes", verdict(65 * level + around <= 16384)],
-    ]
-    if d.before:
-        grown = [d.product[f]["whole"][0] / row["whole"][0] for f, row in d.before.items()]
-        rows.append(["whole call: no file without tag 9 costs more than 2 per cent more than before", f"{len(grown)} files: median {statistics.median(grown):.3f}, least {min(grown):.3f}, greatest {max(grown):.3f}", verdict(max(grown) <= 1.02)])
-    return table(["goal", "measured", ""], rows)
+    ])
 
 
 def plot(d, path):
-    """Left: search over baseline's search for each file, by the baseline's instructions. Right: CPU of a call and of the solvers, by jobs."""
+    """Left: search over baseline's search for each file, by the baseline's instructions. Right: the whole call by jobs."""
     out = ['<svg xmlns="http://www.w3.org/2000/svg" width="940" height="380" font-family="sans-serif" font-size="12">', '<rect width="940" height="380" fill="white"/>']
     line = lambda x1, y1, x2, y2, c="#999": out.append(f'<line x1="{x1:.1f}" y1="{y1:.1f}" x2="{x2:.1f}" y2="{y2:.1f}" stroke="{c}"/>')
     text = lambda x, y, s, c="black", a="middle": out.append(f'<text x="{x:.1f}" y="{y:.1f}" fill="{c}" text-anchor="{a}">{s}</text>')
-    dot = lambda x, y, c: out.append(f'<circle cx="{x:.1f}" cy="{y:.1f}" r="3" fill="{c}" fill-opacity="0.7"/>')
-    ratios = {f: d.product[f]["search"][0] / d.base(f, "baseline-search") for f in d.searched}
+    dot = lambda x, y, c: out.append(f'<circle cx="{x:.1f}" cy="{y:.1f}" r="3" fill="{c}" fill-opacity="0.6"/>')
+    searched = d.searched + d.capped
+    color = lambda f: "#c33" if parts(f)[0].startswith("hard") else "#393" if parts(f)[0] in MANY else "#36c"
+    ratios = dict(zip(searched, d.ratios(searched)))
     low, high = min(0.85, min(ratios.values())), max(1.15, max(ratios.values()))
-    along = lambda n: 60 + 340 * (math.log10(n) - 2.9) / 2.6
+    costs = [d.base(f, "baseline-search") for f in searched]
+    first, last = math.log10(min(costs)), math.log10(max(costs))
+    along = lambda n: 60 + 340 * (math.log10(n) - first) / (last - first)
     up = lambda r: 330 - 280 * (r - low) / (high - low)
     text(230, 25, "search: product / baseline, a dot for each file")
-    for tick in (1000, 10000, 100000):
+    for tick in (10**k for k in range(math.ceil(first), math.floor(last) + 1)):
         text(along(tick), 350, count(tick))
     text(230, 370, "instructions of the baseline's search")
-    for tick in (0.9, 1.0, 1.1):
-        line(60, up(tick), 400, up(tick), "#333" if tick == 1 else "#ddd")
+    for tick in (0.1 * k for k in range(math.ceil(10 * low), math.floor(10 * high) + 1)):
+        line(60, up(tick), 400, up(tick), "#333" if abs(tick - 1) < 0.01 else "#ddd")
         text(50, up(tick) + 4, f"{tick:.1f}", a="end")
-    for f in d.searched:
-        dot(along(d.base(f, "baseline-search")), up(ratios[f]), "#c33" if parts(f)[0] == "hard" else "#36c")
-    text(395, 60, "hard files red", "#c33", "end")
-    rows = {"product": {}, "CBC": {}, "GLPK": {}, "clingo": {}, "Gecode": {}}
-    for name, by in rows.items():
-        for n in generate.SIZES:
-            files = [f for f in d.asked if parts(f)[0] in FAMILIES and parts(f)[1] == n]
-            net = lambda f: d.times[f][0] if name == "product" else d.solvers["runs"][f][name][0] - d.solvers["startup"][name]
-            by[n] = max(1e-6, statistics.median(net(f) for f in files))
-    high_up = lambda s: 330 - 280 * (math.log10(s) + 6) / 6.5
-    across = lambda n: 520 + 300 * (n - 8) / 56
-    text(670, 25, "median CPU seconds net of start-up, families")
-    for power in range(-6, 1):
-        line(520, high_up(10.0**power), 820, high_up(10.0**power), "#ddd")
-        text(510, high_up(10.0**power) + 4, f"1e{power}", a="end")
-    for n in generate.SIZES:
+    for f in searched:
+        dot(along(d.base(f, "baseline-search")), up(ratios[f]), color(f))
+    whole = {f: d.cost(f, "whole") for f in d.files}
+    floor, roof = math.log10(min(whole.values())), math.log10(max(whole.values()))
+    rise = lambda n: 330 - 280 * (math.log10(n) - floor) / (roof - floor)
+    across = lambda n: 530 + 300 * math.log2(n / 8) / math.log2(50)
+    text(680, 25, "whole call: instructions by jobs, a dot for each file")
+    for tick in (10**k for k in range(math.ceil(floor), math.floor(roof) + 1)):
+        line(530, rise(tick), 830, rise(tick), "#ddd")
+        text(520, rise(tick) + 4, count(tick), a="end")
+    for n in (8, 16, 32, 64, 100, 200, 400):
         text(across(n), 350, n)
-    text(670, 370, "jobs")
-    label = 0
-    for (name, by), color in sorted(zip(rows.items(), ("#c33", "#36c", "#393", "#939", "#c80")), key=lambda row: -row[0][1][64]):
-        label = max(label + 14, high_up(by[64]) + 4)  # labels below each other
-        points = " ".join(f"{across(n):.1f},{high_up(s):.1f}" for n, s in by.items())
-        out.append(f'<polyline points="{points}" fill="none" stroke="{color}" stroke-width="2"/>')
-        text(828, label, name, color, "start")
+    text(680, 370, "jobs")
+    for f in d.files:
+        dot(across(parts(f)[1]), rise(whole[f]), color(f))
+    for i, (name, c) in enumerate((("hard files", "#c33"), ("many jobs", "#393"), ("others", "#36c"))):
+        text(845, 60 + 16 * i, name, c, "start")
     path.write_text("\n".join(out + ["</svg>"]) + "\n")
 
 
 def main():
     folder, docs = sys.argv[1], pathlib.Path(sys.argv[2])
     d = Data(folder)
-    tables = {
-        "goals": goal_table(d), "search": search_table(d), "search-grid": grid(d, "search", "baseline-search"), "hard": hard_table(d),
-        "whole": whole_table(d), "solvers": solver_table(d), "capped": capped_table(d), "hardcap": hard_capped_table(d), "capped-worst": capped_worst(d),
-        "capped-solvers": capped_solver_table(d), "stack": stack_table(d),
+    made = {
+        "goals": goal_table, "search": search_table, "search-grid": lambda d: grid(d, "search", "baseline-search"), "many": many_table, "hard": hard_table,
+        "whole": whole_table, "capped": capped_table, "hardcap": hard_capped_table, "worst": worst, "stack": stack_table,
     }
+    if d.before:
+        made |= {"before": before_table, "check": check_table, "dear": dear_table}
+    if d.solvers:
+        d.asked, d.asked_capped = [f for f in d.solvers["runs"] if not parts(f)[4]], [f for f in d.solvers["runs"] if parts(f)[4]]
+        made |= {"solver-goals": solver_goal_table, "solvers": solver_table, "capped-solvers": capped_solver_table}
     page = docs / "BENCHMARKS.md"
     text = page.read_text()
-    for name, made in tables.items():
-        print(f"\n{name}\n{made}")
-        text, found = re.subn(rf"(<!-- {name} -->\n).*?(<!-- end -->)", lambda m: m.group(1) + made + "\n" + m.group(2), text, flags=re.S)
+    for name, make in made.items():
+        cells = make(d)
+        print(f"\n{name}\n{cells}")
+        text, found = re.subn(rf"(<!-- {name} -->\n).*?(<!-- end -->)", lambda m: m.group(1) + cells + "\n" + m.group(2), text, flags=re.S)
         if found != 1:
             sys.exit(f"{page}: the marker {name} stands {found} times")
     page.write_text(text)

@@ -17,7 +17,8 @@ def parse(data):
         value = data[at + 3 : at + 3 + size]
         jobs += tag == 3
         limit = value[0] if tag == 2 else limit
-        needs += [tuple(value)] if tag == 4 and tuple(value) not in needs else []
+        pair = tuple(value) if tag == 4 else (value[0] + 256 * value[1], value[2] + 256 * value[3]) if tag == 6 else None
+        needs += [pair] if pair and pair not in needs else []
         cap = value[0] if tag == 9 else cap
         at += 3 + size
     return jobs, needs, limit, cap

@@ -12,9 +12,9 @@
 #include <stddef.h>
 #include <stdint.h>
 
-#define GATE_FILE_BYTES 16384u  /* the longest job file that is read */
+#define GATE_FILE_BYTES 49152u  /* the longest job file that is read */
 #define GATE_WORK_BYTES 65536u  /* the working buffer that gate_plan needs */
-#define GATE_TABLE_BYTES 1222u  /* the table buffer that gate_plan needs: the longest table */
+#define GATE_TABLE_BYTES 7606u  /* the table buffer that gate_plan needs: the longest table */
 #define GATE_REFUSED 65536u     /* what gate_plan and gate_lookup add to the number of a refusal */
 
 #ifdef __cplusplus
@@ -32,7 +32,7 @@ uint32_t gate_plan(const uint8_t *file, size_t file_len, uint8_t *work, size_t w
 /* Checks a table for a job file: 0 if it passes, else the number of the refusal. */
 uint32_t gate_check(const uint8_t *file, size_t file_len, const uint8_t *table, size_t table_len);
 
-/* What a board does in a slot: 0 idle, a job number from 1, or GATE_REFUSED + number. Slots count from 0, boards from 1. */
+/* What a board does in a slot: 0 idle, a job number, 1 to 400, or GATE_REFUSED + number. Slots count from 0, boards from 1. */
 uint32_t gate_lookup(const uint8_t *table, size_t table_len, size_t slot, size_t board);
 
 /* The name of that job: its offset in the table times 65536 plus its length; 0 if idle or refused. */

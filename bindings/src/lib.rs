@@ -23,11 +23,11 @@ pub mod c {
 }
 
 /// The longest job file that is read.
-pub const FILE_BYTES: usize = 16_384;
+pub const FILE_BYTES: usize = 49_152;
 /// The working buffer that `plan` needs; it comes back zeroed.
 pub const WORK_BYTES: usize = 65_536;
 /// The table buffer that `plan` needs: the longest table.
-pub const TABLE_BYTES: usize = 1_222;
+pub const TABLE_BYTES: usize = 7_606;
 /// What `gate_plan` and `gate_lookup` add to the number of a refusal.
 pub const REFUSED: u32 = 65_536;
 

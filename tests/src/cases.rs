@@ -2,17 +2,19 @@
 
 use crate::generate::drafts::{self, boards_field, field, Draft};
 use crate::generate::random::Random;
-use crate::generate::{damage, grown, hard, limits, shapes, tables};
+use crate::generate::shapes::{self, Shape};
+use crate::generate::{damage, grown, hard, limits, many, tables};
 use crate::reference::implied::{self, implied_needs};
 use crate::reference::lists;
 use crate::reference::needs::Graph;
-use crate::reference::reading::{read, take_field, JobFile, LONGEST_FILE, MOST_BOARDS};
+use crate::reference::reading::{need_numbers, read, take_field, JobFile, LONGEST_FILE, MOST_BOARDS, MOST_JOBS};
 use crate::reference::search;
 use crate::reference::small::small_gates;
 use crate::reference::table::Table;
 use crate::report::{shown, Of};
 use crate::stage::Verdict;
 use crate::tester::Tester;
+use std::collections::HashSet;
 use std::fmt::Debug;
 
 /// Small files are tried against the search through all lists where there are at most this many.
@@ -42,9 +44,9 @@ pub fn run(tester: &mut Tester, seed: u64, index: u64) {
     }
 }
 
-/// Sound files of every shape up to 64 jobs, with tables for them.
+/// Sound files of every shape and size, with tables for them.
 fn sound(tester: &mut Tester) {
-    let draft = Draft::sound(&mut tester.random, 64);
+    let draft = Draft::any(&mut tester.random);
     let file = draft.mixed_bytes(&mut tester.random);
     let planned = tester.plan("plan: sound shapes", &file);
     if tester.random.percent(10) {
@@ -57,7 +59,7 @@ fn sound(tester: &mut Tester) {
 
 /// Files that give eight as most boards, which get the answers of the same files without that field.
 fn eight_boards(tester: &mut Tester) {
-    let draft = Draft { boards: None, ..Draft::sound(&mut tester.random, 64) };
+    let draft = Draft { boards: None, ..Draft::any(&mut tester.random) };
     let mut fields = draft.fields();
     let without = fields.concat();
     fields.insert(tester.random.between(2, fields.len()), boards_field(8));
@@ -80,8 +82,9 @@ fn eight_boards(tester: &mut Tester) {
 
 /// Files of a gate, of extra jobs, and of both with no need between them, under one limit and with eight boards.
 fn extra_jobs(tester: &mut Tester) {
-    let (mut gate, mut extras) = match tester.random.below(4) {
-        0 => gate_and_longer_chain(&mut tester.random),
+    let (mut gate, mut extras) = match tester.random.below(8) {
+        0 | 1 => gate_and_longer_chain(&mut tester.random),
+        2 => many_and_chain(&mut tester.random),
         _ => (Draft::sound(&mut tester.random, 16), Draft::sound(&mut tester.random, 4)),
     };
     gate.limit = gate.limit.max(tester.random.pick(&[1, extras.limit]));
@@ -104,13 +107,27 @@ fn extra_jobs(tester: &mut Tester) {
 /// A job with some takers, of which the last begins a chain, and extras that need as many slots as the gate or a few more:
 /// with more slots the gate takes its lower takers first.
 fn gate_and_longer_chain(random: &mut Random) -> (Draft, Draft) {
-    let (takers, chain) = (random.between(2, 3) as u8, random.between(1, 3) as u8);
+    let (takers, chain) = (random.between(2, 3) as u16, random.between(1, 3) as u16);
     let jobs = 1 + takers + chain;
-    let needs: Vec<(u8, u8)> =
+    let needs: Vec<(u16, u16)> =
         (2..=1 + takers).map(|taker| (1, taker)).chain((1 + takers..jobs).map(|job| (job, job + 1))).collect();
     let slots = takers.max(chain + 1) + 1;
-    let longer = slots + random.below(3) as u8;
-    (Draft::plain(longer, jobs as usize, &needs), Draft::chain(longer, longer))
+    let longer = slots + random.below(3) as u16;
+    (Draft::plain(longer as u8, jobs as usize, &needs), Draft::chain(longer as u8, longer))
+}
+
+/// Many jobs, but not the most there may be, and a chain as long as the limit or a little shorter, which has few slots to choose
+/// from.
+fn many_and_chain(random: &mut Random) -> (Draft, Draft) {
+    let gate = loop {
+        let gate = Draft::many(random);
+        if gate.jobs.len() < MOST_JOBS {
+            break gate;
+        }
+    };
+    let longest = (MOST_JOBS - gate.jobs.len()).min(gate.limit as usize);
+    let length = longest.saturating_sub(random.below(3)).max(1) as u16;
+    (gate, Draft::chain(1, length))
 }
 
 /// Of the tables of a gate, of extra jobs and of both: how they stand, and whether what request 12 says of that is so.
@@ -136,7 +153,7 @@ fn extras_verdict(planned: &[Result<Vec<u8>, u8>; 3]) -> (&'static str, Option<V
 
 /// Files that have grown, and the same files without the needs that follow from others.
 fn grown_files(tester: &mut Tester) {
-    let file = grown::draft(&mut tester.random, 64).mixed_bytes(&mut tester.random);
+    let file = grown::draft(&mut tester.random).mixed_bytes(&mut tester.random);
     let implied = try_list(tester, &file);
     tester.report.count("striking: needs that follow".to_string(), implied.len() as u64);
     if implied.is_empty() {
@@ -155,7 +172,7 @@ fn grown_files(tester: &mut Tester) {
 /// Files with needs given twice, sound or damaged, and the same files with a comment as long in place of each later field:
 /// planner and check answer the same, byte for byte.
 fn repeated_needs(tester: &mut Tester) {
-    let draft = Draft::sound(&mut tester.random, 64).with_copies(&mut tester.random);
+    let draft = Draft::any(&mut tester.random).with_copies(&mut tester.random);
     let file = match tester.random.below(4) {
         0 => damage::fields(&mut tester.random, &draft),
         _ => draft.mixed_bytes(&mut tester.random),
@@ -187,18 +204,16 @@ fn repeated_case(tester: &mut Tester, group: &'static str, kind: String, verdict
     file_case(tester, Of::Answer, group, verdict, file);
 }
 
-/// The bytes with a comment of any two bytes in place of each need field whose pair was in one before; and how many.
+/// The bytes with a comment of any bytes in place of each need field whose pair was in one before, of either tag; and how
+/// many.
 fn repeats_as_comments(random: &mut Random, file: &[u8]) -> (Vec<u8>, u64) {
-    let (mut kept, mut rest, mut pairs, mut count) = (Vec::new(), file, Vec::new(), 0);
+    let (mut kept, mut rest, mut pairs, mut count) = (Vec::new(), file, HashSet::new(), 0);
     while let Some((tag, value, behind)) = take_field(rest) {
-        if tag == 4 && value.len() == 2 && pairs.contains(&value) {
-            kept.extend(field(5, &random.bytes(2)));
+        if need_numbers(tag, value).is_some_and(|pair| !pairs.insert(pair)) {
+            kept.extend(field(5, &random.bytes(value.len())));
             count += 1;
         } else {
             kept.extend(&rest[..rest.len() - behind.len()]);
-        }
-        if tag == 4 {
-            pairs.push(value);
         }
         rest = behind;
     }
@@ -297,11 +312,10 @@ fn same_answer(tester: &mut Tester, same: bool, file: &[u8]) {
 
 /// Files that get harder and harder to search, with limits at and near the fewest slots.
 fn hard(tester: &mut Tester) {
-    let jobs = tester.random.between(8, 64);
-    let boards = drafts::boards(&mut tester.random);
+    let (first, boards, steps) = hard_start(&mut tester.random);
     let most_boards = boards.unwrap_or(MOST_BOARDS);
-    for shape in hard::shapes(&mut tester.random, jobs, most_boards, 100) {
-        let widest = limits::widest(&Graph::new(jobs, &shape.needs), most_boards);
+    for shape in hard::shapes(&mut tester.random, first, most_boards, steps) {
+        let widest = limits::widest(&Graph::new(shape.jobs, &shape.needs), most_boards);
         let mut draft = Draft::of_shape(&mut tester.random, &shape, widest.clamp(1, 64) as u8, boards);
         let planned = tester.plan("plan: hard files", &draft.bytes());
         let slots = planned.map_or(draft.limit, |table| table[4]);
@@ -310,6 +324,17 @@ fn hard(tester: &mut Tester) {
             let _ = tester.plan("plan: hard files", &draft.bytes());
         }
     }
+}
+
+/// A shape to begin with, most boards, and how many steps to go; with many jobs fewer steps lead on.
+fn hard_start(random: &mut Random) -> (Shape, Option<u8>, usize) {
+    if random.percent(30) {
+        let shape = many::narrow_shape(random, 20);
+        let boards = limits::few_boards(random, &shape);
+        return (shape, random.pick(&[None, boards]), 300);
+    }
+    let (jobs, boards) = (random.between(8, 64), drafts::boards(random));
+    (limits::narrow_shape(random, jobs, boards.unwrap_or(MOST_BOARDS), 50), boards, 100)
 }
 
 /// Files of up to 6 jobs, whose answer the search through all start lists must give too.
@@ -363,7 +388,7 @@ fn all_lists(tester: &mut Tester, file: &[u8], planned: Option<Vec<usize>>) {
 
 /// Files with a wrong field or two.
 fn damaged_fields(tester: &mut Tester) {
-    let draft = Draft::sound(&mut tester.random, 20);
+    let draft = few_jobs_or_any(&mut tester.random);
     let file = damage::fields(&mut tester.random, &draft);
     let planned = tester.plan("plan: wrong fields", &file);
     try_tables(tester, &file, &planned);
@@ -372,7 +397,7 @@ fn damaged_fields(tester: &mut Tester) {
 
 /// Files with a few bytes changed, lost or added.
 fn damaged_bytes(tester: &mut Tester) {
-    let draft = Draft::sound(&mut tester.random, 20);
+    let draft = few_jobs_or_any(&mut tester.random);
     let mut file = draft.mixed_bytes(&mut tester.random);
     damage::bytes(&mut tester.random, &mut file);
     let planned = tester.plan("plan: damaged bytes", &file);
@@ -382,6 +407,15 @@ fn damaged_bytes(tester: &mut Tester) {
     let _ = tester.check("check: damaged bytes in the file", &file, planned.as_deref().unwrap_or(&some_table(&draft)));
 }
 
+/// Mostly few jobs, of which damage hits each more often.
+fn few_jobs_or_any(random: &mut Random) -> Draft {
+    if random.percent(80) {
+        Draft::sound(random, 20)
+    } else {
+        Draft::any(random)
+    }
+}
+
 /// A table for the draft that may be right or wrong.
 fn some_table(draft: &Draft) -> Vec<u8> {
     crate::reference::entries::plan(&draft.bytes(), usize::MAX, usize::MAX).unwrap_or_default()
@@ -389,7 +423,7 @@ fn some_table(draft: &Draft) -> Vec<u8> {
 
 /// Files around the longest that is read, and bytes that are no file at all.
 fn lengths(tester: &mut Tester) {
-    let draft = Draft::sound(&mut tester.random, 64);
+    let draft = Draft::any(&mut tester.random);
     let sound = draft.mixed_bytes(&mut tester.random);
     let length = tester.random.pick(&[LONGEST_FILE - 1, LONGEST_FILE, LONGEST_FILE + 1, 20_000, 70_000, 300]);
     let mut file = match tester.random.below(4) {
@@ -404,7 +438,7 @@ fn lengths(tester: &mut Tester) {
     let _ = tester.check("check: lengths", &file, planned.as_deref().unwrap_or(&some_table(&draft)));
 }
 
-/// Tables of all kinds for one file: the planned one, valid ones, broken ones.
+/// Tables of all kinds for one file: the planned one, valid ones, broken ones; more of them where there are many jobs.
 fn try_tables(tester: &mut Tester, file: &[u8], planned: &Result<Vec<u8>, u8>) {
     if let Ok(table) = planned {
         let checked = tester.check("check: planned tables", file, table);
@@ -413,18 +447,20 @@ fn try_tables(tester: &mut Tester, file: &[u8], planned: &Result<Vec<u8>, u8>) {
             .case(Of::Answer, "planned tables pass", checked.map_err(|number| number.to_string()), || shown(file));
         tester.lookups("lookup: planned tables", table);
     }
-    if let Ok(read) = read(file) {
-        other_tables(tester, file, &read);
+    let Ok(read) = read(file) else { return };
+    let times = if read.jobs.len() > 64 { 4 } else { 1 };
+    for _ in 0..times {
+        other_tables(tester, file, &read, planned);
     }
 }
 
 /// A table for other most boards, a valid table and some that are wrong.
-fn other_tables(tester: &mut Tester, file: &[u8], read: &JobFile) {
+fn other_tables(tester: &mut Tester, file: &[u8], read: &JobFile, planned: &Result<Vec<u8>, u8>) {
     let other = JobFile { boards: drafts::boards(&mut tester.random), ..read.clone() };
     if let Some(table) = tables::valid(&mut tester.random, &other) {
         let _ = tester.check("check: tables for other most boards", file, &table.bytes());
     }
-    let Some(table) = tables::valid(&mut tester.random, read) else { return };
+    let Some(table) = tables::valid_or_planned(&mut tester.random, read, planned) else { return };
     let _ = tester.check("check: other valid tables", file, &table.bytes());
     let broken = tables::broken(&mut tester.random, read, &table);
     let _ = tester.check("check: a rule broken", file, &broken);
@@ -436,7 +472,7 @@ fn other_tables(tester: &mut Tester, file: &[u8], read: &JobFile) {
 
 /// Any limit, so files that are too wide to plan too, and many tables.
 fn many_tables(tester: &mut Tester) {
-    let mut draft = Draft::sound(&mut tester.random, 64);
+    let mut draft = Draft::any(&mut tester.random);
     if tester.random.percent(50) {
         draft.limit = tester.random.between(1, 64) as u8;
     }
@@ -445,9 +481,9 @@ fn many_tables(tester: &mut Tester) {
     try_tables(tester, &file, &planned);
     let Ok(read) = read(&file) else { return };
     for _ in 0..4 {
-        other_tables(tester, &file, &read);
+        other_tables(tester, &file, &read, &planned);
     }
-    if let Some(table) = tables::valid(&mut tester.random, &read) {
+    if let Some(table) = tables::valid_or_planned(&mut tester.random, &read, &planned) {
         tester.all_lookups("lookup: every slot and board", &table.bytes());
     }
 }
@@ -506,8 +542,8 @@ pub fn all_small(tester: &mut Tester, most: u8) {
 /// table's slots are the fewest that trying every start list finds.
 pub fn every_small_gate(tester: &mut Tester) {
     for gate in small_gates() {
-        let rising: Vec<(u8, u8)> =
-            gate.needs.iter().map(|&(giver, taker)| (giver as u8 + 1, taker as u8 + 1)).collect();
+        let rising: Vec<(u16, u16)> =
+            gate.needs.iter().map(|&(giver, taker)| (giver as u16 + 1, taker as u16 + 1)).collect();
         let mut orders = vec![rising.clone(), rising.into_iter().rev().collect()];
         orders.dedup();
         for needs in orders {

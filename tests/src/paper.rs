@@ -1,7 +1,7 @@
 //! The cases that document 01 names, with their answers written out, and others whose answer its text settles, or that
-//! of requests 4, 5, 6, 12, 13 and 14 in document 02.
+//! of requests 4, 5, 6, 8, 12, 13 and 14 in document 02.
 
-use crate::generate::drafts::{boards_field, field, job_field, need_field, Draft};
+use crate::generate::drafts::{boards_field, field, job_field, need_field, wide_need_field, Draft};
 use crate::reference::entries::table_of;
 use crate::reference::implied::implied_needs;
 use crate::reference::needs::Graph;
@@ -21,10 +21,10 @@ enum Answer {
 use Answer::{Planned, Refused};
 
 /// The needs of Figure 1.
-const FIGURE_1: [(u8, u8); 8] = [(1, 3), (1, 4), (1, 5), (2, 5), (3, 6), (4, 6), (5, 7), (5, 8)];
+const FIGURE_1: [(u16, u16); 8] = [(1, 3), (1, 4), (1, 5), (2, 5), (3, 6), (4, 6), (5, 7), (5, 8)];
 
 /// The needs of five jobs, which two boards run in three slots if job 1 is held back.
-const FIVE_JOBS: [(u8, u8); 3] = [(2, 3), (3, 4), (5, 4)];
+const FIVE_JOBS: [(u16, u16); 3] = [(2, 3), (3, 4), (5, 4)];
 
 /// The bytes of the printed example, and what the planning program prints for them.
 const PRINTED_FILE: [u8; 36] = [
@@ -50,6 +50,7 @@ pub fn run(tester: &mut Tester) {
     named_small_gates(tester);
     printed_example(tester);
     checked(tester);
+    checked_with_many_jobs(tester);
     checked_with_most_boards(tester);
     rounded(tester);
     every_level(tester);
@@ -57,16 +58,17 @@ pub fn run(tester: &mut Tester) {
 }
 
 fn named_cases() -> Vec<(&'static str, Vec<u8>, Answer)> {
-    [planned_cases(), repeated_cases(), most_boards_cases(), extras_cases()].into_iter().flatten().collect()
+    [planned_cases(), repeated_cases(), many_jobs_cases(), wide_need_cases(), most_boards_cases(), extras_cases()]
+        .into_iter()
+        .flatten()
+        .collect()
 }
 
 fn planned_cases() -> Vec<(&'static str, Vec<u8>, Answer)> {
-    let plain = |limit, jobs, needs: &[(u8, u8)]| Draft::plain(limit, jobs, needs).bytes();
+    let plain = |limit, jobs, needs: &[(u16, u16)]| Draft::plain(limit, jobs, needs).bytes();
     let chain = |limit, jobs| Draft::chain(limit, jobs).bytes();
     let (header, limit) = (field(1, &[1]), field(2, &[5]));
     let job = job_field(0, b"a");
-    let sixty_five = [chain(64, 64), job.clone()].concat();
-    let bad_sixty_fifth = [chain(64, 64), job_field(0, b"a b")].concat();
     let sound = plain(3, 3, &[(1, 3), (2, 3)]);
     let filled = |length: usize| [sound.clone(), field(5, &vec![0; length - sound.len() - 3])].concat();
     vec![
@@ -91,13 +93,14 @@ fn planned_cases() -> Vec<(&'static str, Vec<u8>, Answer)> {
         ("tag 9 first", boards_field(1), Refused(5)),
         ("tag 3 first", job.clone(), Refused(5)),
         ("chain of 64, limit 64", chain(64, 64), Planned((0..64).collect(), vec![1; 64])),
-        ("a 65th job", sixty_five, Refused(7)),
+        ("a 401st job", [chain(64, 400), job.clone()].concat(), Refused(7)),
         ("needs 1-2, 2-1", plain(5, 2, &[(1, 2), (2, 1)]), Refused(11)),
         ("comment of length 0 last", [sound.clone(), field(5, &[])].concat(), Planned(vec![0, 0, 2], vec![1, 2, 1])),
         // settled by the text
-        ("16,384 bytes", filled(16_384), Planned(vec![0, 0, 2], vec![1, 2, 1])),
-        ("16,385 bytes", filled(16_385), Refused(2)),
-        ("16,385 bytes that are no file", vec![9; 16_385], Refused(2)),
+        ("16,385 bytes", filled(16_385), Planned(vec![0, 0, 2], vec![1, 2, 1])),
+        ("49,152 bytes", filled(49_152), Planned(vec![0, 0, 2], vec![1, 2, 1])),
+        ("49,153 bytes", filled(49_153), Refused(2)),
+        ("49,153 bytes that are no file", vec![9; 49_153], Refused(2)),
         ("header only", header.clone(), Refused(10)),
         ("header and limit only", [header.clone(), limit.clone()].concat(), Refused(10)),
         ("limit first", [limit.clone(), header.clone()].concat(), Refused(5)),
@@ -105,7 +108,7 @@ fn planned_cases() -> Vec<(&'static str, Vec<u8>, Answer)> {
         ("one byte left over", [sound.clone(), vec![9]].concat(), Refused(3)),
         ("two bytes left over", [sound.clone(), vec![5, 0]].concat(), Refused(3)),
         ("a value cut short", [sound.clone(), vec![5, 1, 0]].concat(), Refused(3)),
-        ("a bad 65th job", bad_sixty_fifth, Refused(6)),
+        ("a bad 401st job", [chain(64, 400), job_field(0, b"a b")].concat(), Refused(6)),
         ("the first bad field decides", [sound.clone(), need_field(1, 1), field(10, &[])].concat(), Refused(8)),
         ("a need before its job", [header, limit, job.clone(), need_field(1, 2), job].concat(), Refused(8)),
         ("a need with number 0", [sound.clone(), need_field(0, 1)].concat(), Refused(8)),
@@ -121,7 +124,7 @@ fn planned_cases() -> Vec<(&'static str, Vec<u8>, Answer)> {
 
 /// Needs given twice. Counted twice, most of those that are planned would get 13 or another table.
 fn repeated_cases() -> Vec<(&'static str, Vec<u8>, Answer)> {
-    let plain = |limit, jobs, needs: &[(u8, u8)]| Draft::plain(limit, jobs, needs).bytes();
+    let plain = |limit, jobs, needs: &[(u16, u16)]| Draft::plain(limit, jobs, needs).bytes();
     let twice = |draft: Draft| Draft { needs: draft.needs.repeat(2), ..draft }.bytes();
     let then = |giver, taker| [plain(2, 2, &[(1, 2)]), need_field(giver, taker)].concat();
     let two_jobs = || Planned(vec![0, 1], vec![1, 1]);
@@ -132,7 +135,7 @@ fn repeated_cases() -> Vec<(&'static str, Vec<u8>, Answer)> {
     vec![
         ("a need twice", then(1, 2), two_jobs()),
         ("a need twice, limit 1", plain(1, 2, &[(1, 2), (1, 2)]), Refused(13)),
-        ("a need 500 times", plain(2, 2, &[(1, 2); 500]), two_jobs()),
+        ("a need 9,800 times", plain(2, 2, &[(1, 2); 9_800]), two_jobs()),
         ("a need three times, a comment between", [then(1, 2), field(5, b"x"), need_field(1, 2)].concat(), two_jobs()),
         ("a need again behind one more job", [then(1, 2), job_field(0, b"c"), need_field(1, 2)].concat(), third_job),
         ("the later of two givers twice", plain(3, 3, &[(1, 2), (1, 3), (2, 3), (2, 3)]), one_by_one()),
@@ -148,6 +151,125 @@ fn repeated_cases() -> Vec<(&'static str, Vec<u8>, Answer)> {
         ("a need for job 0 beside one for job 1", [plain(2, 2, &[(2, 1)]), need_field(2, 0)].concat(), Refused(8)),
         ("a need twice before a bad field", [then(1, 2), field(10, &[])].concat(), Refused(4)),
         ("a need twice, the second too long", [plain(2, 2, &[(1, 2)]), field(4, &[1, 2, 0])].concat(), Refused(6)),
+    ]
+}
+
+/// Files of more than 64 jobs: chains, and chains of diamonds, each of which has two jobs that could go first.
+fn many_jobs_cases() -> Vec<(&'static str, Vec<u8>, Answer)> {
+    let chain = |limit, jobs| Draft::chain(limit, jobs).bytes();
+    let chains = |limit| Draft::side_by_side(limit, 8, 50);
+    let eight_boards =
+        || Planned((0..50).flat_map(|slot| [slot; 8]).collect(), (1..=8).collect::<Vec<u8>>().repeat(50));
+    let turned_round = |draft: Draft| {
+        let needs = draft.needs.iter().map(|&(giver, taker)| (401 - giver, 401 - taker)).collect();
+        Draft { needs, ..draft }
+    };
+    let longest_names =
+        |draft: Draft| Draft { jobs: draft.jobs.iter().map(|(level, _)| (*level, vec![b'n'; 12])).collect(), ..draft };
+    let and_need = |giver, taker| [chains(50).bytes(), need_field(giver, taker)].concat();
+    let mut cases = vec![
+        ("65 jobs without needs, limit 1", Draft::plain(1, 65, &[]).bytes(), Refused(12)),
+        ("65 jobs without needs, limit 64", Draft::plain(64, 65, &[]).bytes(), Refused(12)),
+        ("400 jobs without needs", Draft::plain(50, 400, &[]).bytes(), Refused(12)),
+        ("eight chains of 50", chains(50).bytes(), eight_boards()),
+        ("eight chains of 50, limit 49", chains(49).bytes(), Refused(13)),
+        ("eight chains of 50, limit 51", chains(51).bytes(), Refused(12)),
+        ("eight chains of 50, most boards 7", Draft { boards: Some(7), ..chains(50) }.bytes(), Refused(13)),
+        ("eight chains of 50, names of 12 bytes", longest_names(chains(50)).bytes(), eight_boards()),
+        (
+            "eight chains of 50 from the last job to the first",
+            turned_round(chains(50)).bytes(),
+            Planned((0..50).rev().flat_map(|slot| [slot; 8]).collect(), (1..=8).collect::<Vec<u8>>().repeat(50)),
+        ),
+        ("eight chains of 50 and a need over two slots", and_need(377, 400), eight_boards()),
+        ("eight chains of 50 and a need over one slot", and_need(385, 400), Refused(13)),
+        ("eight chains of 50 and a circle", and_need(400, 8), Refused(11)),
+        ("chain of 400, limit 64", chain(64, 400), Refused(13)),
+        (
+            "three chains of diamonds and two chains",
+            diamonds(64, |job| job + 1).bytes(),
+            Planned((0..64).flat_map(|row| [row; 5]).collect(), (1..=5).collect::<Vec<u8>>().repeat(64)),
+        ),
+        (
+            "the same from the last job to the first",
+            diamonds(64, |job| 320 - job).bytes(),
+            Planned((0..320).rev().map(lower_number_first).collect(), (1..=5).collect::<Vec<u8>>().repeat(64)),
+        ),
+        ("the same, limit 63", diamonds(63, |job| 320 - job).bytes(), Refused(13)),
+    ];
+    cases.extend((1..=64).map(|limit| ("chain of 65", chain(limit, 65), Refused(13))));
+    cases
+}
+
+/// Five jobs a row, 64 rows: three chains of diamonds (a job, two that need it, one that needs both, and again from that one on) and
+/// two chains. The jobs, counted from 0 row by row, get these numbers.
+fn diamonds(limit: u8, number: fn(u16) -> u16) -> Draft {
+    let mut needs = Vec::new();
+    for job in 0..315 {
+        let (row, chain) = (job / 5, job % 5);
+        let rows_on: &[u16] = match (chain, row % 3) {
+            (3 | 4, _) => &[1],
+            (_, 0) => &[1, 2],
+            (_, 1) => &[2],
+            _ => &[1],
+        };
+        needs.extend(rows_on.iter().map(|rows| (number(job), number(job + 5 * rows))));
+    }
+    Draft::plain(limit, 320, &needs)
+}
+
+/// The start of a job, counted from 0 row by row, where the second of the two in the middle of a diamond has the lower number.
+fn lower_number_first(job: u16) -> u8 {
+    let (row, chain) = ((job / 5) as u8, job % 5);
+    match (chain, row % 3) {
+        (0..=2, 1) => row + 1,
+        (0..=2, 2) => row - 1,
+        _ => row,
+    }
+}
+
+/// Needs with tag 6. Read by one byte a number, or with the high byte first, most of those with numbers beyond 255 would name
+/// other jobs.
+fn wide_need_cases() -> Vec<(&'static str, Vec<u8>, Answer)> {
+    let plain = |limit, jobs, needs: &[(u16, u16)]| Draft::plain(limit, jobs, needs).bytes();
+    let (header, limit, job) = (field(1, &[1]), field(2, &[2]), job_field(0, b"a"));
+    let two = plain(2, 2, &[]);
+    let then = |value: &[u8]| [&two[..], &field(6, value)].concat();
+    let wide = |giver, taker| [&two[..], &wide_need_field(giver, taker)].concat();
+    let two_jobs = || Planned(vec![0, 1], vec![1, 1]);
+    vec![
+        ("a need with tag 6", wide(1, 2), two_jobs()),
+        ("a need with tag 6, its bytes", then(&[1, 0, 2, 0]), two_jobs()),
+        ("a need with tag 6 the other way", wide(2, 1), Planned(vec![1, 0], vec![1, 1])),
+        ("a need by tag 4 and then 6", [&plain(2, 2, &[(1, 2)])[..], &wide_need_field(1, 2)].concat(), two_jobs()),
+        ("a need by tag 6 and then 4", [wide(1, 2), need_field(1, 2)].concat(), two_jobs()),
+        ("a need by tag 6 twice", [wide(1, 2), wide_need_field(1, 2)].concat(), two_jobs()),
+        (
+            "two givers, each by both tags",
+            [&plain(3, 3, &[(1, 3), (2, 3)])[..], &wide_need_field(1, 3), &wide_need_field(2, 3)].concat(),
+            Planned(vec![0, 0, 2], vec![1, 2, 1]),
+        ),
+        ("a circle of both tags", [wide(1, 2), need_field(2, 1)].concat(), Refused(11)),
+        ("tag 6 first", wide_need_field(1, 2), Refused(5)),
+        ("tag 6 first, of no byte", field(6, &[]), Refused(5)),
+        ("tag 6 second", [&header[..], &wide_need_field(1, 2), &limit, &job, &job].concat(), Refused(5)),
+        ("tag 6 before its jobs", [&header[..], &limit, &wide_need_field(1, 2), &job, &job].concat(), Refused(8)),
+        ("tag 6 between its jobs", [&header[..], &limit, &job, &wide_need_field(1, 2), &job].concat(), Refused(8)),
+        ("tag 6 of no byte", then(&[]), Refused(6)),
+        ("tag 6 of two bytes", then(&[1, 2]), Refused(6)),
+        ("tag 6 of three bytes", then(&[1, 0, 2]), Refused(6)),
+        ("tag 6 of five bytes", then(&[1, 0, 2, 0, 0]), Refused(6)),
+        ("tag 4 of four bytes", [&two[..], &field(4, &[1, 0, 2, 0])].concat(), Refused(6)),
+        ("tag 6 with number 0", wide(0, 2), Refused(8)),
+        ("tag 6 with one job twice", wide(2, 2), Refused(8)),
+        ("giver 257 of two jobs", then(&[1, 1, 2, 0]), Refused(8)),
+        ("taker 258 of two jobs", then(&[1, 0, 2, 1]), Refused(8)),
+        ("giver 256 of two jobs", then(&[0, 1, 2, 0]), Refused(8)),
+        ("taker 512 of two jobs", then(&[1, 0, 0, 2]), Refused(8)),
+        ("taker 65,535 of two jobs", wide(1, 65_535), Refused(8)),
+        ("a bad length before bad numbers", then(&[0, 0, 0]), Refused(6)),
+        ("giver 401 of 400 jobs", [Draft::side_by_side(50, 8, 50).bytes(), need_field(401, 1)].concat(), Refused(8)),
+        ("taker 401 of 400 jobs", [Draft::side_by_side(50, 8, 50).bytes(), need_field(1, 401)].concat(), Refused(8)),
     ]
 }
 
@@ -191,7 +313,7 @@ fn extras_cases() -> Vec<(&'static str, Vec<u8>, Answer)> {
 
 /// Files with tag 9.
 fn most_boards_cases() -> Vec<(&'static str, Vec<u8>, Answer)> {
-    let plain = |limit, boards, jobs, needs: &[(u8, u8)]| {
+    let plain = |limit, boards, jobs, needs: &[(u16, u16)]| {
         Draft { boards: Some(boards), ..Draft::plain(limit, jobs, needs) }.bytes()
     };
     let five = |limit, boards| plain(limit, boards, 5, &FIVE_JOBS);
@@ -234,7 +356,6 @@ fn most_boards_cases() -> Vec<(&'static str, Vec<u8>, Answer)> {
         ("most boards twice before a bad field", [again(&[2]), field(10, &[])].concat(), Refused(21)),
         ("most boards twice and no job", [header, limit, boards_field(2), boards_field(2)].concat(), Refused(21)),
         ("most boards twice in a circle", [plain(5, 1, 2, &[(1, 2), (2, 1)]), boards_field(1)].concat(), Refused(21)),
-        ("tag 6", other_tag(6), Refused(4)),
         ("tag 7", other_tag(7), Refused(4)),
         ("tag 8", other_tag(8), Refused(4)),
         ("tag 10", other_tag(10), Refused(4)),
@@ -249,12 +370,18 @@ pub fn implied_cases() -> Vec<(&'static str, Vec<u8>, String)> {
         _ => None,
     });
     let listed = listed_cases().into_iter().map(|(name, draft, text)| (name, draft.bytes(), text.to_string()));
-    listed.chain([all_pairs()]).chain(refused).collect()
+    let both_tags = [Draft::plain(9, 3, &[(1, 2), (2, 3), (1, 3)]).bytes(), wide_need_field(1, 3)].concat();
+    let others = [
+        all_pairs("all pairs of 64 jobs", 64),
+        all_pairs("all pairs of 139 jobs, as many as a file has room for", 139),
+        ("a need that follows, by both tags", both_tags, "1 3\n".to_string()),
+    ];
+    listed.chain(others).chain(refused).collect()
 }
 
 fn listed_cases() -> Vec<(&'static str, Draft, &'static str)> {
-    let plain = |jobs, needs: &[(u8, u8)]| Draft::plain(9, jobs, needs);
-    let chain = |jobs, more: &[(u8, u8)]| {
+    let plain = |jobs, needs: &[(u16, u16)]| Draft::plain(9, jobs, needs);
+    let chain = |jobs, more: &[(u16, u16)]| {
         let draft = Draft::chain(64, jobs);
         Draft { needs: [more, &draft.needs].concat(), ..draft }
     };
@@ -278,6 +405,11 @@ fn listed_cases() -> Vec<(&'static str, Draft, &'static str)> {
         ("givers before takers", plain(6, &[(2, 6), (6, 3), (2, 3), (1, 5), (5, 4), (1, 4)]), "1 4\n2 3\n"),
         ("takers of one giver", plain(4, &[(4, 3), (3, 2), (2, 1), (4, 2), (3, 1), (4, 1)]), "3 1\n4 1\n4 2\n"),
         ("9 before 10, 2 before 10", chain(12, &[(10, 12), (2, 10), (2, 9)]), "2 9\n2 10\n10 12\n"),
+        (
+            "needs of jobs beyond 255",
+            chain(400, &[(255, 257), (1, 400), (256, 258), (254, 256)]),
+            "1 400\n254 256\n255 257\n256 258\n",
+        ),
         ("most boards", Draft { boards: Some(1), ..plain(3, &shortcut) }, "1 3\n"),
         ("too wide to plan", Draft::plain(9, 12, &shortcut), "1 3\n"),
         ("more slots than the limit", Draft::plain(1, 3, &shortcut), "1 3\n"),
@@ -325,12 +457,12 @@ fn numbered_from_1(needs: &[(usize, usize)]) -> Vec<(usize, usize)> {
     needs.iter().map(|(giver, taker)| (giver + 1, taker + 1)).collect()
 }
 
-/// Each of 64 jobs needs all before it: all but those for the job right before follow.
-fn all_pairs() -> (&'static str, Vec<u8>, String) {
-    let pairs = |apart: u8| (1..=64).flat_map(move |giver| (giver + apart..=64).map(move |taker| (giver, taker)));
-    let needs: Vec<(u8, u8)> = pairs(1).collect();
+/// Each job needs all before it: all but those for the job right before follow.
+fn all_pairs(name: &'static str, jobs: u16) -> (&'static str, Vec<u8>, String) {
+    let pairs = |apart: u16| (1..=jobs).flat_map(move |giver| (giver + apart..=jobs).map(move |taker| (giver, taker)));
+    let needs: Vec<(u16, u16)> = pairs(1).collect();
     let text = pairs(2).map(|(giver, taker)| format!("{giver} {taker}\n")).collect();
-    ("all pairs of 64 jobs", Draft::plain(64, 64, &needs).bytes(), text)
+    (name, Draft::plain(64, jobs as usize, &needs).bytes(), text)
 }
 
 /// Files with the width that document 01 gives.
@@ -394,7 +526,34 @@ fn checked(tester: &mut Tester) {
     checks(tester, "a circle comes before the table", &Draft::plain(4, 2, &[(1, 2), (2, 1)]).bytes(), &[], Err(11));
 }
 
-/// The same needs and limit with most boards: how many, starts and boards of the three jobs, and what the check says.
+/// Changes to the table of eight chains of 50, and what the check says.
+fn checked_with_many_jobs(tester: &mut Tester) {
+    let file = Draft::side_by_side(50, 8, 50).bytes();
+    let (starts, boards): (Vec<usize>, Vec<u8>) =
+        (0..50).flat_map(|slot| (1..=8).map(move |board| (slot, board))).unzip();
+    let planned = table_of(&read(&file).expect("a sound file"), &starts, &boards);
+    let cases: [(&'static str, fn(&mut Vec<Row>), Passes); 7] = [
+        ("400 rows", |_| (), Ok(())),
+        ("399 rows", |rows| drop(rows.pop()), Err(14)),
+        ("401 rows", |rows| rows.push(rows[399].clone()), Err(14)),
+        ("the last two of 400 rows exchanged", |rows| rows.swap(398, 399), Err(15)),
+        ("the last of 400 jobs beyond the limit", |rows| rows[399].start = 50, Err(16)),
+        ("the last two of 400 jobs in one place", |rows| rows[399].board = 7, Err(17)),
+        (
+            "the last two of 400 jobs on each other's boards",
+            |rows| (rows[398].board, rows[399].board) = (8, 7),
+            Err(18),
+        ),
+    ];
+    for (name, change, answer) in cases {
+        let mut table = planned.clone();
+        change(&mut table.rows);
+        table.recount();
+        checks(tester, name, &file, &table.bytes(), answer);
+    }
+}
+
+/// Tables for needs 1-3, 2-3, limit 4 with most boards: how many, starts and boards of the three jobs, and what the check says.
 fn checked_with_most_boards(tester: &mut Tester) {
     let draft = Draft::plain(4, 3, &[(1, 3), (2, 3)]);
     let cases: [(&'static str, u8, [u8; 3], [u8; 3], Passes); 7] = [
@@ -487,8 +646,9 @@ fn checks(tester: &mut Tester, name: &str, file: &[u8], table: &[u8], answer: Pa
 fn looked_up(tester: &mut Tester) {
     let row = |start, board| Row { start, board, level: 0, name: b"a".to_vec() };
     let chain: Vec<Row> = (0..64).map(|start| row(start, 8)).collect();
-    let too_many = [&chain[..], &[row(0, 1)]].concat();
-    let cases: [(&'static str, Vec<Row>, (usize, usize), Found); 15] = [
+    let most: Vec<Row> = (0..50).flat_map(|start| (1..=8).map(move |board| row(start, board))).collect();
+    let too_many = [&most[..], &[row(50, 1)]].concat();
+    let cases: [(&'static str, Vec<Row>, (usize, usize), Found); 19] = [
         ("its job", vec![row(0, 1), row(63, 8)], (63, 8), Ok(Some(2))),
         ("another board", vec![row(63, 8)], (63, 7), Ok(None)),
         ("another slot", vec![row(63, 8)], (62, 8), Ok(None)),
@@ -496,8 +656,12 @@ fn looked_up(tester: &mut Tester) {
         ("beyond the slots", vec![row(63, 8)], (64, 8), Ok(None)),
         ("beyond the boards", vec![row(63, 8)], (63, 9), Ok(None)),
         ("a slot that would wrap", vec![row(63, 8)], (63 + 256, 8), Ok(None)),
-        ("64 rows", chain, (63, 8), Ok(Some(64))),
-        ("65 rows", too_many, (63, 8), Err(14)),
+        ("64 rows", chain.clone(), (63, 8), Ok(Some(64))),
+        ("65 rows", [&chain[..], &[row(0, 1)]].concat(), (0, 1), Ok(Some(65))),
+        ("the 256th of 400 rows", most.clone(), (31, 8), Ok(Some(256))),
+        ("the 257th of 400 rows", most.clone(), (32, 1), Ok(Some(257))),
+        ("the last of 400 rows", most, (49, 8), Ok(Some(400))),
+        ("401 rows", too_many, (0, 1), Err(14)),
         ("no row", Vec::new(), (0, 0), Err(14)),
         ("65 slots", vec![row(64, 8)], (0, 1), Err(16)),
         ("a start of 255", vec![row(255, 8)], (0, 1), Err(16)),

@@ -20,7 +20,7 @@ use std::process::{Command, Stdio};
 pub fn plan(tester: &mut Tester, program: &str, seed: u64, count: u64) {
     for index in 0..count {
         let mut random = Random::new(seed ^ 0x706c_616e, index);
-        let draft = Draft::sound(&mut random, 64);
+        let draft = Draft::any(&mut random);
         tester.label = format!("seed {seed} program file {index}");
         let file = varied_bytes(&mut random, &draft);
         let expected = printed(&entries::plan(&file, usize::MAX, usize::MAX));
@@ -42,7 +42,7 @@ pub fn implied_needs(tester: &mut Tester, program: &str, most: u8, seed: u64, co
     }
     for index in 0..count {
         let mut random = Random::new(seed ^ 0x696d_706c, index);
-        let mut draft = grown::draft(&mut random, 64);
+        let mut draft = grown::draft(&mut random);
         if random.percent(10) {
             grown::close_circle(&mut random, &mut draft);
         }

@@ -4,9 +4,15 @@
 use crate::generate::random::Random;
 use crate::lent::Lent;
 use crate::reference::entries;
+use crate::reference::reading::LONGEST_FILE;
+use crate::reference::table::LONGEST_TABLE;
 
 pub const LONGEST_INPUT: usize = 1 << 17;
 pub const LONGEST_WORK: usize = entries::WORK_BYTES + 8192;
+/// The sizes that the bindings name are those of documents 01 and 02.
+const _: () = assert!(
+    gate::FILE_BYTES == LONGEST_FILE && gate::WORK_BYTES == entries::WORK_BYTES && gate::TABLE_BYTES == LONGEST_TABLE
+);
 /// Bytes watched in front of each buffer.
 const MARGIN: usize = 64;
 const REFUSED: u32 = 65_536;

@@ -23,20 +23,20 @@ impl Tester {
     /// Plans a file with buffers that are large enough; gives what the library answered.
     pub fn plan(&mut self, group: &'static str, file: &[u8]) -> Result<Vec<u8>, u8> {
         let work = self.random.pick(&[WORK_BYTES, WORK_BYTES, WORK_BYTES + 1, LONGEST_WORK]);
-        let table = self.random.pick(&[LONGEST_TABLE, LONGEST_TABLE, LONGEST_TABLE + 1, 4000]);
+        let table = self.random.pick(&[LONGEST_TABLE, LONGEST_TABLE, LONGEST_TABLE + 1, 9000]);
         self.plan_in(group, file, work, table)
     }
 
     /// Plans a file with buffers of any length: exactly large enough, larger, one byte short, empty.
     pub fn plan_in_any(&mut self, group: &'static str, file: &[u8]) {
         let work = self.random.pick(&[0, 1, WORK_BYTES - 1, WORK_BYTES, WORK_BYTES + 1, LONGEST_WORK]);
-        let table = self.random.pick(&[0, 1, LONGEST_TABLE - 1, LONGEST_TABLE, LONGEST_TABLE + 1, 4000]);
+        let table = self.random.pick(&[0, 1, 1_222, LONGEST_TABLE - 1, LONGEST_TABLE, LONGEST_TABLE + 1, 9000]);
         let _ = self.plan_in(group, file, work, table);
     }
 
     fn plan_in(&mut self, group: &'static str, file: &[u8], work: usize, table: usize) -> Result<Vec<u8>, u8> {
         let (answered, verdict) = self.stage.plan(&mut self.random, file, work, table);
-        let answer = answered.as_ref().map_or_else(|number| format!("refused {number:>2}"), |_| "table".to_string());
+        let answer = answered.as_ref().map_or_else(|number| format!("refused {number:>2}"), |table| kind_of(table));
         self.report.answer("plan", answer);
         let label = &self.label;
         self.report
@@ -87,4 +87,15 @@ impl Tester {
         self.report.case(Of::Call, group, verdict, || format!("{label}, table {}", shown(table)));
         expected
     }
+}
+
+/// How many jobs a table has: so many as were allowed before request 8, so many as tag 4 reaches, or more.
+fn kind_of(table: &[u8]) -> String {
+    let jobs = Table::read(table).map_or(0, |table| table.rows.len());
+    let range = match jobs {
+        ..=64 => "up to 64",
+        65..=255 => "65 to 255",
+        _ => "256 to 400",
+    };
+    format!("table of {range} jobs")
 }

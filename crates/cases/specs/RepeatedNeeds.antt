@@ -45,16 +45,16 @@ no-tie = computed tt refl refl
 -- its needs stand at the offsets 20 and 25
 first-need : NeedField oneNeedTwice 20
 unfolding fileBytes fileQuestions
-first-need = record { before = more 0 tt (more 4 tt (more 8 tt (more 14 tt (done 20 refl)))); is-whole = tt; tag-is = refl }
+first-need = record { before = more 0 tt (more 4 tt (more 8 tt (more 14 tt (done 20 refl)))); is-whole = tt; tag-is = tt; long = tt }
 
 second-need : NeedField oneNeedTwice 25
 unfolding fileBytes fileQuestions
-second-need = record { before = more 0 tt (more 4 tt (more 8 tt (more 14 tt (more 20 tt (done 25 refl))))); is-whole = tt; tag-is = refl }
+second-need = record { before = more 0 tt (more 4 tt (more 8 tt (more 14 tt (more 20 tt (done 25 refl))))); is-whole = tt; tag-is = tt; long = tt }
 
 -- so it gets the answers of the file with a comment of two bytes in place of the second
 pub as-comment : SameAnswers oneNeedTwice (fileOf 2 ((1, 2) ∷ []) 2 ++ comment (7 ∷ 7 ∷ []))
 unfolding fileBytes fileQuestions bytesb
-as-comment = repeat-same oneNeedTwice (bytes-are oneNeedTwice tt) 20 25 first-need second-need (omega arith) refl (7 ∷ 7 ∷ []) refl
+as-comment = repeat-same oneNeedTwice (bytes-are oneNeedTwice tt) 20 25 first-need second-need (omega arith) refl refl (7 ∷ 7 ∷ []) refl
 
 -- 2-3 once more: two givers as without it; starts 0 1 2 satisfy P, which they would not if 2-3 counted twice (lines (3) and (4))
 pub two-givers : Holds (record {

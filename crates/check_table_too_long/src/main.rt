@@ -1,4 +1,4 @@
-// Tries check_table on a job file of 16,385 bytes, whose first 16,384 are a readable job file.
+// Tries check_table on a job file of 49,153 bytes, whose first 49,152 are a readable job file.
 fn main() {
     commands::check_table();
 }

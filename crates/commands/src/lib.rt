@@ -1,11 +1,14 @@
 // What the programs plan, plan_table, check_table, show_table, implied_needs and small_gates do. Each but the last gives the number of the question that said no, as it printed it; 0
 // where none did, or where a file could not be read or written.
 //
-// A job file of more than 16,384 bytes fills its buffer, and is refused by question 2, whatever follows. A table file has at most 1,222
-// bytes: one that fills a buffer of 4,096 is refused by question 14.
+// A job file that fills its buffer is longer than a file may be, and is refused by question 2, whatever follows; a table file that fills its
+// buffer is longer than any table, and is refused by question 14.
 use gate::Planned;
 use libc::STDERR_FILENO;
 use libc::STDIN_FILENO;
+use sizes::MAX_FILE;
+use sizes::PAIR_ENTRIES;
+use sizes::TABLE_BYTES;
 ghost use mathlib.Core.Path.{_≡_};
 ghost use mathlib.Core.Bool.{true};
 ghost use mathlib.Core.Logic.{_⊎_};
@@ -15,6 +18,11 @@ ghost use Rattle.rules.specs.Answers.{plan as Answers·plan, check as Answers·
 ghost use Rattle.rules.specs.Implied.{listImplied};
 ghost use Rattle.laws.specs.Refusals.{PlanNumber, ImpliedNumber, CheckNumber, LookupNumber};
 ghost use Rattle.gate.specs.Numbers.{plannedSize};
+
+// Room for one byte more than a job file and a table may have.
+const FILE_ROOM: usize = MAX_FILE + 1;
+
+const TABLE_ROOM: usize = TABLE_BYTES + 1;
 
 // The first so many bytes of a buffer.
 fn front(buffer: &[u8], size: usize) -> &[u8]
@@ -48,9 +56,9 @@ fn plan_bytes(file: &[u8], work: &mut [u8], table: &mut [u8]) -> u8
 pub fn plan() -> u8
     ensures { λ r. ⌜ (r ≡ 0) ⊎ PlanNumber r ⌝ }
 {
-    let mut file = [0u8; 16385];
+    let mut file = [0u8; FILE_ROOM];
     let mut work = io::large_buffer();
-    let mut table = [0u8; 1222];
+    let mut table = [0u8; TABLE_BYTES];
     let n = io::read_full(STDIN_FILENO, &mut file);
     plan_bytes(&file[..n], &mut work, &mut table)
 }
@@ -87,9 +95,9 @@ pub fn plan_table() -> u8
         io::write_all(STDERR_FILENO, b"usage: plan_table JOB_FILE TABLE_FILE\n");
         return 0;
     }
-    let mut file = [0u8; 16385];
+    let mut file = [0u8; FILE_ROOM];
     let mut work = io::large_buffer();
-    let mut table = [0u8; 1222];
+    let mut table = [0u8; TABLE_BYTES];
     let f = files::read_argument(1, &mut file);
     if !f.ok {
         return 0;
@@ -113,8 +121,8 @@ pub fn check_table() -> u8
         io::write_all(STDERR_FILENO, b"usage: check_table JOB_FILE TABLE_FILE\n");
         return 0;
     }
-    let mut file = [0u8; 16385];
-    let mut table = io::buffer();
+    let mut file = [0u8; FILE_ROOM];
+    let mut table = [0u8; TABLE_ROOM];
     let f = files::read_argument(1, &mut file);
     if !f.ok {
         return 0;
@@ -136,7 +144,7 @@ pub fn show_table() -> u8
         io::write_all(STDERR_FILENO, b"usage: show_table TABLE_FILE\n");
         return 0;
     }
-    let mut table = io::buffer();
+    let mut table = [0u8; TABLE_ROOM];
     let t = files::read_argument(1, &mut table);
     if !t.ok {
         return 0;
@@ -157,8 +165,8 @@ fn list_bytes(file: &[u8], list: &mut [u16]) -> u8
 pub fn implied_needs() -> u8
     ensures { λ r. ⌜ (r ≡ 0) ⊎ ImpliedNumber r ⌝ }
 {
-    let mut file = [0u8; 16385];
-    let mut list = [0u16; 6552];
+    let mut file = [0u8; FILE_ROOM];
+    let mut list = [0u16; PAIR_ENTRIES];
     let n = io::read_full(STDIN_FILENO, &mut file);
     list_bytes(&file[..n], &mut list)
 }

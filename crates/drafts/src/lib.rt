@@ -1,18 +1,19 @@
 // Small job files for test programs, written at the front of a lent array. Each job has the name `a` and level 0.
+use sizes::TABLE_BYTES;
 ghost use mathlib.Core.Path.{_≡_};
-ghost use Prim.Native.Nat.{_+_, _*_, _-_, _≤_};
+ghost use Prim.Native.Nat.{_+_, _*_, _≤_};
 ghost use lib.ListN.{take};
 
 // A byte, where the array has its place.
-fn put(file: &mut [u8; 1222], at: usize, byte: u8) {
-    if at < 1222 {
+fn put(file: &mut [u8; TABLE_BYTES], at: usize, byte: u8) {
+    if at < TABLE_BYTES {
         file[at] = byte;
     }
 }
 
 // The head of a field: its tag and the length of its value.
-fn put_field(file: &mut [u8; 1222], at: usize, tag: u8, length: u8)
-    requires { ⌜ at ≤ 1222 ⌝ }
+fn put_field(file: &mut [u8; TABLE_BYTES], at: usize, tag: u8, length: u8)
+    requires { ⌜ at ≤ 7606 ⌝ }
 {
     put(file, at, tag);
     put(file, at + 1, length);
@@ -20,8 +21,8 @@ fn put_field(file: &mut [u8; 1222], at: usize, tag: u8, length: u8)
 }
 
 // A job.
-fn put_job(file: &mut [u8; 1222], at: usize)
-    requires { ⌜ at ≤ 1222 ⌝ }
+fn put_job(file: &mut [u8; TABLE_BYTES], at: usize)
+    requires { ⌜ at ≤ 7606 ⌝ }
 {
     put_field(file, at, 3, 3);
     put(file, at + 3, 0);
@@ -30,7 +31,7 @@ fn put_job(file: &mut [u8; 1222], at: usize)
 }
 
 // Header and limit.
-fn put_front(file: &mut [u8; 1222], limit: u8) {
+fn put_front(file: &mut [u8; TABLE_BYTES], limit: u8) {
     put_field(file, 0, 1, 1);
     put(file, 3, 1);
     put_field(file, 4, 2, 1);
@@ -38,8 +39,8 @@ fn put_front(file: &mut [u8; 1222], limit: u8) {
 }
 
 // Header, limit and so many jobs. Gives their length.
-pub fn put_jobs(file: &mut [u8; 1222], limit: u8, count: u8) -> usize
-    requires { ⌜ count ≤ 65 ⌝ }
+pub fn put_jobs(file: &mut [u8; TABLE_BYTES], limit: u8, count: usize) -> usize
+    requires { ⌜ count ≤ 401 ⌝ }
     ensures { λ r. ⌜ r ≡ 8 + 6 * count ⌝ }
 {
     put_front(file, limit);
@@ -54,8 +55,8 @@ pub fn put_jobs(file: &mut [u8; 1222], limit: u8, count: u8) -> usize
 }
 
 // A need, behind so many bytes. Gives the length with it.
-pub fn put_need(file: &mut [u8; 1222], at: usize, giver: u8, taker: u8) -> usize
-    requires { ⌜ at ≤ 1217 ⌝ }
+pub fn put_need(file: &mut [u8; TABLE_BYTES], at: usize, giver: u8, taker: u8) -> usize
+    requires { ⌜ at ≤ 7601 ⌝ }
     ensures { λ r. ⌜ r ≡ at + 5 ⌝ }
 {
     put_field(file, at, 4, 2);
@@ -65,8 +66,8 @@ pub fn put_need(file: &mut [u8; 1222], at: usize, giver: u8, taker: u8) -> usize
 }
 
 // The most boards, behind so many bytes. Gives the length with them.
-pub fn put_sockets(file: &mut [u8; 1222], at: usize, boards: u8) -> usize
-    requires { ⌜ at ≤ 1218 ⌝ }
+pub fn put_sockets(file: &mut [u8; TABLE_BYTES], at: usize, boards: u8) -> usize
+    requires { ⌜ at ≤ 7602 ⌝ }
     ensures { λ r. ⌜ r ≡ at + 4 ⌝ }
 {
     put_field(file, at, 9, 1);
@@ -74,26 +75,50 @@ pub fn put_sockets(file: &mut [u8; 1222], at: usize, boards: u8) -> usize
     at + 4
 }
 
-// Behind so many bytes, a need from each of so many jobs, but the last, to the next. Gives the length with them.
-pub fn put_chain(file: &mut [u8; 1222], from: usize, count: u8) -> usize
-    requires { ⌜ (from ≤ 400) × (count ≤ 65) ⌝ }
-    ensures { λ r. ⌜ r ≡ from + 5 * (count - 1) ⌝ }
+// A need with numbers of two bytes, behind so many bytes. Gives the length with it.
+pub fn put_wide_need(file: &mut [u8; TABLE_BYTES], at: usize, giver: u16, taker: u16) -> usize
+    requires { ⌜ at ≤ 7599 ⌝ }
+    ensures { λ r. ⌜ r ≡ at + 7 ⌝ }
+{
+    put_field(file, at, 6, 4);
+    put(file, at + 3, (giver % 256) as u8);
+    put(file, at + 4, (giver / 256) as u8);
+    put(file, at + 5, (taker % 256) as u8);
+    put(file, at + 6, (taker / 256) as u8);
+    at + 7
+}
+
+// A need, with numbers of one byte where one byte holds both, behind so many bytes. Gives the length with it.
+fn put_short_need(file: &mut [u8; TABLE_BYTES], at: usize, giver: u16, taker: u16) -> usize
+    requires { ⌜ at ≤ 7599 ⌝ }
+    ensures { λ r. ⌜ r ≤ at + 7 ⌝ }
+{
+    if giver < 256 && taker < 256 {
+        return put_need(file, at, giver as u8, taker as u8);
+    }
+    put_wide_need(file, at, giver, taker)
+}
+
+// Behind so many bytes, so many chains side by side, of so many jobs in all: a need to each job from the one that stands as many jobs earlier as there are
+// chains. Gives the length with them.
+pub fn put_chains(file: &mut [u8; TABLE_BYTES], from: usize, chains: u16, jobs: u16) -> usize
+    requires { ⌜ (from ≤ 2414) × (chains ≤ 8) × (jobs ≤ 401) ⌝ }
 {
     let mut at = from;
-    let mut i = 1;
-    while i < count {
-        at = put_need(file, at, i, i + 1);
-        i += 1;
+    let mut taker = 1 + chains;
+    while taker <= jobs {
+        at = put_short_need(file, at, taker - chains, taker);
+        taker += 1;
     }
     at
 }
 
 // So many bytes of the front, or all where there are fewer.
-pub fn front(file: &[u8; 1222], count: usize) -> &[u8]
+pub fn front(file: &[u8; TABLE_BYTES], count: usize) -> &[u8]
     ensures { λ r. ⌜ now r ≡ take count (now (file .entry)) ⌝ }
 {
     let whole: &[u8] = file;
-    if count < 1222 {
+    if count < TABLE_BYTES {
         return &whole[..count];
     }
     whole

@@ -18,9 +18,9 @@ use Rattle.fieldreader.specs.declared.FieldRow.{FieldRow}
 use Rattle.fieldreader.specs.declared.FieldAnswer.the-variants.{Field, Refused}
 use Rattle.fieldreader.specs.Reader.{RowOf, fieldAt}
 
--- a known tag that is none of 1 to 5
-pub last-tag : (tag : ℕ) → tag ≢ 1 → tag ≢ 2 → tag ≢ 3 → tag ≢ 4 → tag ≢ 5 → T (knownTag tag) → 9 ≡ tag
-last-tag tag a b c d e t = ⊎-elim (λ w. absurd (omega arith)) sym (known-is tag .0 t)
+-- a known tag that is none of 1 to 6
+pub last-tag : (tag : ℕ) → tag ≢ 1 → tag ≢ 2 → tag ≢ 3 → tag ≢ 4 → tag ≢ 5 → tag ≢ 6 → T (knownTag tag) → 9 ≡ tag
+last-tag tag a b c d e f t = ⊎-elim (λ w. absurd (omega arith)) sym (known-is tag .0 t)
 
 module _ (bs : List ℕ) (a k : ℕ) where
   not-whole : (T (whole bs a) → ⊥) → Refused 3 ≡ fieldAt bs a k

@@ -13,8 +13,8 @@ pub struct FieldRow {
     pub greatest: u16,
 }
 
-// Header, limit, job, need, comment, most boards.
-pub const ROWS: [FieldRow; 6] = [
+// Header, limit, job, need, comment, need with numbers of two bytes, most boards.
+pub const ROWS: [FieldRow; 7] = [
     FieldRow {
         tag: 1,
         least: 1,
@@ -39,6 +39,11 @@ pub const ROWS: [FieldRow; 6] = [
         tag: 5,
         least: 0,
         greatest: 65535,
+    },
+    FieldRow {
+        tag: 6,
+        least: 4,
+        greatest: 4,
     },
     FieldRow {
         tag: 9,
@@ -85,7 +90,10 @@ fn row_of(tag: u8) -> FieldRow
     if tag == 5 {
         return ROWS[4];
     }
-    ROWS[5]
+    if tag == 6 {
+        return ROWS[5];
+    }
+    ROWS[6]
 }
 
 // The field at offset `at` behind `fields` others: questions 3 to 5, and 6 of its length.

@@ -1,16 +1,30 @@
 // Needs that follow from others: document 02, request 5.
 //
-// Jobs are counted from 0 here. In a set, and in an array of sets, job i stands at place 63 - i (crate jobset).
+// Jobs are counted from 0 here. The takers of each job, and the jobs beyond them, are rows of bits (crate needrows): beyond a job stands
+// where a chain of two needs or more leads from it. So a need follows from others where its taker stands beyond its giver.
 use jobset::Set;
+use needrows::ROW_BYTES;
+use needrows::ROWS_BYTES;
+use needrows::WORD_BITS;
+use needrows::word;
+use needrows::words;
+use sizes::MAX_JOBS;
 ghost use mathlib.Core.Path.{_≡_};
 ghost use mathlib.Core.List.{[], _∷_};
-ghost use Prim.Native.Nat.{_+_, _≤_, _<_};
-ghost use lib.ListN.{length, replicate};
+ghost use Prim.Native.Nat.{ℕ, _+_, _*_, _≤_, _<_};
+ghost use lib.ListN.{length};
+ghost use Rattle.rules.specs.Sizes.{maxJobs};
+ghost use Rattle.rules.specs.Basics.{at};
 ghost use Rattle.rules.specs.Implied.{pairNumbers, listImplied};
 ghost use Rattle.laws.specs.Writing.{put};
-ghost use Rattle.jobset.specs.Sets.{empty, members};
-ghost use Rattle.implied.specs.Reach.{gather, reachEach, fromTop, impliedSet};
-ghost use Rattle.implied.specs.Listing.{rowNumbers, rowsNumbers, listingOf};
+ghost use Rattle.needrows.specs.Rows.{rowBytes, takersOf};
+ghost use Rattle.releases.specs.Ordered.{OrderOf};
+ghost use Rattle.releases.specs.Peels.{numbered};
+ghost use Rattle.implied.specs.Beyond.{Others, RowsThere, Joined, BeyondAre};
+ghost use Rattle.implied.specs.Listing.{pairsOf, Few, rowFrom, rowsFrom, listingOf};
+
+// The entries of a list that has room for the pairs of every file (question 1).
+const LIST_ENTRIES: usize = 19660;
 
 // A list of so many pairs; or the number of the question that said no.
 pub enum Listed {
@@ -18,101 +32,129 @@ pub enum Listed {
     Refused(u8),
 }
 
-// The jobs that these takers reach, where `reach` has what each job reaches.
-fn beyond(reach: &[u64; 64], takers: Set) -> Set
-    ensures { λ r. ⌜ r ≡ gather (now (reach .entry)) (members takers) empty ⌝ }
+// ---- what stands beyond each job
+
+// Beyond the giver comes what the taker leads to: its takers, and what stands beyond it.
+fn add_taker(takers: &[u8], jobs: usize, giver: usize, taker: usize, beyond: &mut [u8])
+    requires { ⌜ RowsThere (now takers) jobs (now beyond) × (giver < jobs) × Others jobs giver (taker ∷ []) ⌝ }
+    ensures { λ _. ⌜ Joined (now (takers .entry)) jobs giver (taker ∷ []) (now (beyond .entry)) (now (beyond .exit)) ⌝ }
 {
-    let mut all = Set::EMPTY;
-    let mut rest = takers;
+    let to = ROW_BYTES * giver;
+    let from = ROW_BYTES * taker;
+    let count = (jobs + 7) / 8;
+    let mut i = 0;
+    while i < count {
+        beyond[to + i] = beyond[to + i] | takers[from + i] | beyond[from + i];
+        i += 1;
+    }
+}
+
+// The same of the takers in a word of the giver's row, numbered from `first`.
+fn add_word(takers: &[u8], jobs: usize, giver: usize, first: usize, some: Set, beyond: &mut [u8])
+    requires { ⌜ RowsThere (now takers) jobs (now beyond) × (giver < jobs) × Others jobs giver (numbered first some) ⌝ }
+    ensures { λ _. ⌜ Joined (now (takers .entry)) jobs giver (numbered first some) (now (beyond .entry)) (now (beyond .exit)) ⌝ }
+{
+    let mut rest = some;
     while !rest.is_empty() {
-        let p = rest.lowest() as usize;
-        all = all.union(Set { bits: reach[p] });
+        let taker = first + rest.lowest() as usize;
+        add_taker(takers, jobs, giver, taker, beyond);
         rest = rest.rest();
     }
-    all
 }
 
-// The jobs of a level get what they reach: their takers, and what these reach.
-fn reach_level(takers: &[u64], level: Set, reach: &mut [u64; 64])
-    requires { ⌜ 64 ≤ length (now takers) ⌝ }
-    ensures { λ _. ⌜ now (reach .exit) ≡ reachEach (now (takers .entry)) (members level) (now (reach .entry)) ⌝ }
+// The same of all takers of the giver.
+fn add_row(takers: &[u8], jobs: usize, giver: usize, beyond: &mut [u8])
+    requires { ⌜ RowsThere (now takers) jobs (now beyond) × (giver < jobs) × Others jobs giver (takersOf (now takers) jobs giver) ⌝ }
+    ensures { λ _. ⌜ Joined (now (takers .entry)) jobs giver (takersOf (now (takers .entry)) jobs giver) (now (beyond .entry)) (now (beyond .exit)) ⌝ }
 {
-    let mut rest = level;
-    while !rest.is_empty() {
-        let p = rest.lowest() as usize;
-        let next = Set { bits: takers[p] };
-        let all = next.union(beyond(reach, next));
-        reach[p] = all.bits;
-        rest = rest.rest();
+    let mut w = 0;
+    while w < words(jobs) {
+        add_word(
+            takers,
+            jobs,
+            giver,
+            WORD_BITS * w,
+            word(takers, giver, w),
+            beyond,
+        );
+        w += 1;
     }
 }
 
-// What each job reaches. A taker has a higher level than its giver: from the highest level down, takers come first.
-fn reached(takers: &[u64], levels: &[u64; 66]) -> [u64; 64]
-    requires { ⌜ 64 ≤ length (now takers) ⌝ }
-    ensures { λ r. ⌜ r ≡ reachEach (now (takers .entry)) (fromTop (now (levels .entry)) 66) (replicate 64 0) ⌝ }
+// The same of all jobs, from the last of the order to the first: so each taker comes before its givers.
+fn add_rows(takers: &[u8], jobs: usize, order: &[u16; MAX_JOBS], beyond: &mut [u8])
+    requires { ⌜ OrderOf (now takers) jobs (now order) × (rowBytes * jobs ≤ length (now beyond)) × ((i : ℕ) → at (now beyond) i ≡ 0) ⌝ }
+    ensures { λ _. ⌜ BeyondAre (now (takers .entry)) jobs (now (beyond .exit)) × (length (now (beyond .exit)) ≡ length (now (beyond .entry))) ⌝ }
 {
-    let mut reach = [0; 64];
-    let mut level = 66;
-    while level > 0 {
-        level -= 1;
-        let jobs = Set {
-            bits: levels[level],
-        };
-        reach_level(takers, jobs, &mut reach);
+    let mut next = jobs;
+    while next > 0 {
+        next -= 1;
+        let giver = order[next] as usize;
+        add_row(takers, jobs, giver, beyond);
     }
-    reach
 }
 
-// The takers of a job whose need follows from others: those that a taker reaches.
-fn implied_takers(takers: Set, reach: &[u64; 64]) -> Set
-    ensures { λ r. ⌜ r ≡ impliedSet takers (now (reach .entry)) ⌝ }
-{
-    takers.intersection(beyond(reach, takers))
-}
+// ---- the list
 
 // A pair, as the file numbers its jobs, at entry `at` of the list.
 fn put_pair(giver: usize, taker: usize, list: &mut [u16], at: usize)
-    requires { ⌜ (giver < 64) × (taker < 64) × (at + 2 ≤ length (now list)) ⌝ }
+    requires { ⌜ (giver < maxJobs) × (taker < maxJobs) × (at + 2 ≤ length (now list)) ⌝ }
     ensures { λ _. ⌜ now (list .exit) ≡ put at (pairNumbers ((giver, taker) ∷ [])) (now (list .entry)) ⌝ }
 {
     list[at] = (giver + 1) as u16;
     list[at + 1] = (taker + 1) as u16;
 }
 
-// The pairs of a giver with each of these takers, in rising order, from entry `first` of the list on; gives the entry behind them.
-fn put_row(giver: usize, takers: Set, jobs: usize, list: &mut [u16], first: usize) -> usize
-    requires { ⌜ (jobs ≤ 64) × (giver < 64) × (first + length (rowNumbers giver takers jobs) ≤ length (now list)) ⌝ }
-    ensures size { λ r. ⌜ r ≡ first + length (rowNumbers giver takers jobs) ⌝ }
-    ensures entries { λ _. ⌜ now (list .exit) ≡ put first (rowNumbers giver takers jobs) (now (list .entry)) ⌝ }
+// The pairs of a giver with the takers in a word, numbered from `first`, in rising order, from entry `at` of the list on; gives the entry behind them.
+fn put_word(giver: usize, first: usize, some: Set, list: &mut [u16], at: usize) -> usize
+    requires { ⌜ (giver < maxJobs) × Few (numbered first some) × (at + length (pairsOf giver (numbered first some)) ≤ length (now list)) ⌝ }
+    ensures size { λ r. ⌜ r ≡ at + length (pairsOf giver (numbered first some)) ⌝ }
+    ensures entries { λ _. ⌜ now (list .exit) ≡ put at (pairsOf giver (numbered first some)) (now (list .entry)) ⌝ }
 {
-    let mut next = first;
-    let mut k = 0;
-    while k < jobs {
-        let taker = k;
-        k += 1;
-        if takers.has(63 - taker) {
-            put_pair(giver, taker, list, next);
-            next += 2;
-        }
+    let mut next = at;
+    let mut rest = some;
+    while !rest.is_empty() {
+        let taker = first + rest.lowest() as usize;
+        put_pair(giver, taker, list, next);
+        next += 2;
+        rest = rest.rest();
+    }
+    next
+}
+
+// The pairs of a giver with all its takers that stand beyond it too.
+fn put_row(
+    takers: &[u8],
+    beyond: &[u8],
+    jobs: usize,
+    giver: usize,
+    list: &mut [u16],
+    at: usize,
+) -> usize
+    requires { ⌜ RowsThere (now takers) jobs (now beyond) × (giver < jobs) × (at + length (rowFrom (now takers) (now beyond) jobs giver 0) ≤ length (now list)) ⌝ }
+    ensures size { λ r. ⌜ r ≡ at + length (rowFrom (now (takers .entry)) (now (beyond .entry)) jobs giver 0) ⌝ }
+    ensures entries { λ _. ⌜ now (list .exit) ≡ put at (rowFrom (now (takers .entry)) (now (beyond .entry)) jobs giver 0) (now (list .entry)) ⌝ }
+{
+    let mut next = at;
+    let mut w = 0;
+    while w < words(jobs) {
+        let both = word(takers, giver, w).intersection(word(beyond, giver, w));
+        next = put_word(giver, WORD_BITS * w, both, list, next);
+        w += 1;
     }
     next
 }
 
 // The pairs of all givers, in rising order; gives the entry behind them.
-fn put_rows(takers: &[u64], reach: &[u64; 64], jobs: usize, list: &mut [u16]) -> usize
-    requires { ⌜ (jobs ≤ 64) × (64 ≤ length (now takers)) × (length (rowsNumbers (now takers) (now reach) jobs) ≤ length (now list)) ⌝ }
-    ensures size { λ r. ⌜ r ≡ length (rowsNumbers (now (takers .entry)) (now (reach .entry)) jobs) ⌝ }
-    ensures entries { λ _. ⌜ now (list .exit) ≡ put 0 (rowsNumbers (now (takers .entry)) (now (reach .entry)) jobs) (now (list .entry)) ⌝ }
+fn put_rows(takers: &[u8], beyond: &[u8], jobs: usize, list: &mut [u16]) -> usize
+    requires { ⌜ RowsThere (now takers) jobs (now beyond) × (length (rowsFrom (now takers) (now beyond) jobs 0) ≤ length (now list)) ⌝ }
+    ensures size { λ r. ⌜ r ≡ length (rowsFrom (now (takers .entry)) (now (beyond .entry)) jobs 0) ⌝ }
+    ensures entries { λ _. ⌜ now (list .exit) ≡ put 0 (rowsFrom (now (takers .entry)) (now (beyond .entry)) jobs 0) (now (list .entry)) ⌝ }
 {
     let mut next = 0;
     let mut giver = 0;
     while giver < jobs {
-        let all = Set {
-            bits: takers[63 - giver],
-        };
-        let row = implied_takers(all, reach);
-        next = put_row(giver, row, jobs, list, next);
+        next = put_row(takers, beyond, jobs, giver, list, next);
         giver += 1;
     }
     next
@@ -123,23 +165,24 @@ fn put_rows(takers: &[u64], reach: &[u64; 64], jobs: usize, list: &mut [u16]) ->
 pub fn implied_needs(file: &[u8], list: &mut [u16]) -> Listed
     ensures { λ r. ⌜ listingOf r (now (list .exit)) ≡ listImplied (now (file .entry)) (now (list .entry)) ⌝ }
 {
-    if list.len() < 6552 {
+    if list.len() < LIST_ENTRIES {
         return Listed::Refused(1);
     }
-    let mut offsets = [0; 64];
-    let mut tables = [0; 260];
-    let f = jobfile::read_file(file, &mut offsets, &mut tables);
+    let mut offsets = [0; MAX_JOBS];
+    let mut takers = [0; ROWS_BYTES];
+    let f = jobfile::read_file(file, &mut offsets, &mut takers);
     let number = f.number;
     if number != 0 {
         return Listed::Refused(number);
     }
-    let before = windows::levels(&tables[0..64], f.jobs);
-    if !before.ok {
+    let jobs = f.jobs;
+    let mut order = [0; MAX_JOBS];
+    let mut release = [0; MAX_JOBS];
+    if !releases::peel(&takers, jobs, &mut order, &mut release) {
         return Listed::Refused(11);
     }
-    let level = before.level;
-    let levels = windows::by_level(&level, f.jobs);
-    let reach = reached(&tables[64..128], &levels);
-    let entries = put_rows(&tables[64..128], &reach, f.jobs, list);
+    let mut beyond = [0; ROWS_BYTES];
+    add_rows(&takers, jobs, &order, &mut beyond);
+    let entries = put_rows(&takers, &beyond, jobs, list);
     Listed::Pairs(entries / 2)
 }

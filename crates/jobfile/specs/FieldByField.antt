@@ -1,22 +1,18 @@
 -- A turn of the loop over the fields: what the field reader and the readers of its value answer, and what is still to come. Assumes nothing.
 use mathlib.Core.Path.{_≡_, refl, sym, ap, subst, _∙_}
 use mathlib.Core.Bool.{Bool, true, false}
-use mathlib.Core.List.{List}
+use mathlib.Core.List.{List, List·Memᴰ·not-nil}
 use Prim.Native.Nat.{ℕ, _+_, _-_, _≤_, _<_}
 use native.Mathlib.Omega.{arith}
-use lib.ListN.{length, take, drop, replicate, length-drop, length-replicate, getD-replicate}
-use lib.Seq.{length-take-le}
-use lib.Dec.{eqb, ltb, lit<}
-use Rattle.rules.specs.Basics.{at, any}
+use lib.ListN.{length, take, drop}
+use lib.Dec.{eqb, ltb}
+use Rattle.rules.specs.Sizes.{maxJobs}
+use Rattle.rules.specs.Basics.{at}
 use Rattle.rules.specs.Fields.{Answer, refused, got, ask, after, fieldEnd, value, overFields}
-use Rattle.rules.specs.Needs.{givesb}
-use Rattle.rules.specs.JobFile.{JobFile, contentOk, addField, readField, noFields}
+use Rattle.rules.specs.JobFile.{JobFile, contentOk, isNeed, addField, readField, noFields}
 use Rattle.laws.specs.Tests.{by-choice}
 use Rattle.laws.specs.Fields.{overFields-step, overFields-end}
-use Rattle.jobset.specs.declared.Set.{Set}
-use Rattle.jobset.specs.Sets.{setAt, empty}
-use Rattle.jobset.specs.Membership.{member-empty}
-use Rattle.jobset.specs.Arrays.{giversIn, takersIn, set-in-part}
+use Rattle.needrows.specs.Rows.{rowsSize}
 use Rattle.fieldreader.specs.declared.FieldAnswer.the-variants.{Field, Refused}
 use Rattle.fieldreader.specs.Reader.{fieldAt}
 use Rattle.fieldreader.specs.FieldFound.{onField, field-first, stands, not-zero, value-is, bounds}
@@ -82,29 +78,21 @@ module _ (bs : List ℕ) (a : ℕ) (f : JobFile) (next : ToCome bs a f) where
 
 -- ---- the start
 
--- before the first field, with no need in the tables
-pub start-held : (bs offsets tables : List ℕ) → length offsets ≡ 64 → tables ≡ replicate 260 0
-    → Held bs noFields (initial offsets (giversIn tables) (takersIn tables))
-unfolding noFields givesb any
-start-held bs offsets tables len e = record {
+-- before the first field, whatever the rows hold
+pub start-held : (bs offsets rows : List ℕ) → length offsets ≡ maxJobs → rowsSize ≤ length rows → Held bs noFields (initial offsets rows)
+unfolding noFields
+start-held bs offsets rows len size = record {
   fields-is = refl;
   limit-is = refl;
   sockets-is = refl;
   jobs-is = refl;
   few = omega arith;
-  sizes = (len, length-take-le 64 tables (omega (arith, size)), length-take-le 64 (drop 64 tables) (omega (arith, size, length-drop 64 tables)));
+  sizes = (len, size);
   offsets-whole = λ i h. absurd (omega arith);
   offsets-are = λ i h. absurd (omega arith);
-  givers-are = λ x y p q. rw (blank 0 (63 - x) (omega arith) (omega arith)) (member-empty (63 - y));
-  givers-small = λ p h. rw (ap (λ (x : Set). x .bits) (blank 0 p (omega arith) h)) (lit< tt);
-  takers-are = λ x y p q. rw (blank 64 (63 - x) (omega arith) (omega arith)) (member-empty (63 - y));
+  needs-in = λ g k m. absurd (List·Memᴰ·not-nil m);
+  rows-are = λ g k h. absurd (omega arith);
 }
-  where
-    size : length tables ≡ 260
-    size = rw e (length-replicate {A = ℕ} 260 0)
-
-    blank : (m k : ℕ) → m ≤ 64 → k < 64 → setAt (take 64 (drop m tables)) k ≡ empty
-    blank m k h l = set-in-part 64 m tables k l ∙ rw (e, getD-replicate {A = ℕ} 260 (m + k) 0 0 (omega arith)) refl
 
 -- ---- a field that is taken is counted
 
@@ -120,8 +108,8 @@ grown-ask k false q x h = tt
 grown : (s : State) (tag a : ℕ) (v : List ℕ) → Grown (s .fields) (takeField s tag a v)
 unfolding takeField takeNeed takeSockets linked Grown
 grown s tag a v =
-    grown-ask k (contentOk tag v) 6 _ (by-choice (Grown k) (eqb tag 2) (λ _. refl) (λ _. by-choice (Grown k) (eqb tag 3) (λ _. grown-ask k (ltb (s .jobs) 64) 7 _ refl)
-    (λ _. by-choice (Grown k) (eqb tag 4) (λ _. grown-ask k _ 8 _ refl)
+    grown-ask k (contentOk tag v) 6 _ (by-choice (Grown k) (eqb tag 2) (λ _. refl) (λ _. by-choice (Grown k) (eqb tag 3) (λ _. grown-ask k (ltb (s .jobs) maxJobs) 7 _ refl)
+    (λ _. by-choice (Grown k) (isNeed tag) (λ _. grown-ask k _ 8 _ refl)
     (λ _. by-choice (Grown k) (eqb tag 9) (λ _. grown-ask k _ 21 _ refl) (λ _. refl)))))
   where
     k : ℕ
@@ -131,18 +119,18 @@ taken-counts : (s s′ : State) (tag a : ℕ) (v : List ℕ) → takeField s tag
 unfolding Grown
 taken-counts s s′ tag a v e = subst (Grown (s .fields)) e (grown s tag a v)
 
--- ---- the loop's invariant: the fields before offset a have been read into counts and arrays
-pub record ReadTo (bs : List ℕ) (c : Counts) (o g t : List ℕ) (a : ℕ) : Type 0 where
+-- ---- the loop's invariant: the fields before offset a have been read into counts, offsets and rows
+pub record ReadTo (bs : List ℕ) (c : Counts) (o rows : List ℕ) (a : ℕ) : Type 0 where
   pub well : c .number ≡ 0
   pub counted : c .fields ≤ a
   pub inside : a ≤ length bs
   pub file : JobFile
-  pub held : Held bs file (stateOf c o g t)
+  pub held : Held bs file (stateOf c o rows)
   pub to-come : ToCome bs a file
 
 -- before the first field
-pub start-read : (bs o g t : List ℕ) (c : Counts) → c .number ≡ 0 → c .fields ≡ 0 → Held bs noFields (stateOf c o g t) → ReadTo bs c o g t 0
-start-read bs o g t c n z h = record {
+pub start-read : (bs o rows : List ℕ) (c : Counts) → c .number ≡ 0 → c .fields ≡ 0 → Held bs noFields (stateOf c o rows) → ReadTo bs c o rows 0
+start-read bs o rows c n z h = record {
   well = n;
   counted = omega arith;
   inside = omega arith;
@@ -151,38 +139,38 @@ start-read bs o g t c n z h = record {
   to-come = record { room = length bs; enough = omega arith; rest = refl };
 }
 
-module _ {bs o g t : List ℕ} {c : Counts} {a : ℕ} (r : ReadTo bs c o g t a) where
+module _ {bs o rows : List ℕ} {c : Counts} {a : ℕ} (r : ReadTo bs c o rows a) where
   -- there is no field left
-  pub end-same : length bs ≤ a → Same bs (allFields bs) (answerOf c o g t)
+  pub end-same : length bs ≤ a → Same bs (allFields bs) (answerOf c o rows)
   unfolding Same
-  end-same h = rw (all-read bs a (r .file) (r .to-come) h, answer-got c o g t (r .well)) (r .held)
+  end-same h = rw (all-read bs a (r .file) (r .to-come) h, answer-got c o rows (r .well)) (r .held)
 
-  module _ (h : a < length bs) (d : Counts) (o′ g′ t′ : List ℕ) where
+  module _ (h : a < length bs) (d : Counts) (o′ rows′ : List ℕ) where
     -- there is one, and its reader refuses it
-    pub field-same-no : (q : ℕ) → fieldAt bs a (c .fields) ≡ Refused q → d .number ≡ q → Same bs (allFields bs) (answerOf d o′ g′ t′)
+    pub field-same-no : (q : ℕ) → fieldAt bs a (c .fields) ≡ Refused q → d .number ≡ q → Same bs (allFields bs) (answerOf d o′ rows′)
     unfolding Same
     field-same-no q e n =
         let all = field-refuses bs a (r .file) (r .to-come) h q (rw (← (r .held .fields-is)) e) in
-        rw (all, answer-refused d q o′ g′ t′ n (not-zero bs a (c .fields) q e)) refl
+        rw (all, answer-refused d q o′ rows′ n (not-zero bs a (c .fields) q e)) refl
 
     module _ (tag s e : ℕ) (found : fieldAt bs a (c .fields) ≡ Field tag s e)
-        (answer : answerOf d o′ g′ t′ ≡ takeField (stateOf c o g t) tag a (take (e - s) (drop s bs))) where
+        (answer : answerOf d o′ rows′ ≡ takeField (stateOf c o rows) tag a (take (e - s) (drop s bs))) where
       -- the file's own count of fields finds it too
       same-found : fieldAt bs a (r .file .fields) ≡ Field tag s e
       same-found = rw (← (r .held .fields-is)) found
 
       -- its value is refused
-      pub value-same-no : (d .number ≡ 0 → ⊥) → Same bs (allFields bs) (answerOf d o′ g′ t′)
+      pub value-same-no : (d .number ≡ 0 → ⊥) → Same bs (allFields bs) (answerOf d o′ rows′)
       unfolding Same
       value-same-no n =
-          let q = answer-refused d (d .number) o′ g′ t′ refl n in
-          rw (q, value-refuses bs a (r .file) (r .to-come) h tag s e same-found (stateOf c o g t) (r .held) (d .number) (sym answer ∙ q)) refl
+          let q = answer-refused d (d .number) o′ rows′ refl n in
+          rw (q, value-refuses bs a (r .file) (r .to-come) h tag s e same-found (stateOf c o rows) (r .held) (d .number) (sym answer ∙ q)) refl
 
       -- its value is taken
-      pub value-read : d .number ≡ 0 → ReadTo bs d o′ g′ t′ e
+      pub value-read : d .number ≡ 0 → ReadTo bs d o′ rows′ e
       value-read n =
-          let q = sym answer ∙ answer-got d o′ g′ t′ n in
-          let w = value-taken bs a (r .file) (r .to-come) h tag s e same-found (stateOf c o g t) (r .held) (stateOf d o′ g′ t′) q in
+          let q = sym answer ∙ answer-got d o′ rows′ n in
+          let w = value-taken bs a (r .file) (r .to-come) h tag s e same-found (stateOf c o rows) (r .held) (stateOf d o′ rows′) q in
           let b = bounds bs a tag s e (stands bs a (c .fields) tag s e found) in
-          let k = taken-counts (stateOf c o g t) (stateOf d o′ g′ t′) tag a (take (e - s) (drop s bs)) q in
+          let k = taken-counts (stateOf c o rows) (stateOf d o′ rows′) tag a (take (e - s) (drop s bs)) q in
           record { well = n; counted = omega (arith, r .counted); inside = b .2; file = w .0; held = w .1; to-come = w .2 }

@@ -1,22 +1,26 @@
 // The job file, read field by field: questions 2 to 8 and 10 of document 01, and 21. The field reader stands in crate fieldreader.
 //
-// Jobs are counted from 0 here. In sets, and in the tables of sets, job i stands at place 63 - i (crate jobset).
-// All tables of a file are one array: the givers of each job, then the takers, then sets that the reader does not touch.
+// Jobs are counted from 0 here. The needs go into rows of takers in a lent slice of bytes (crate needrows): a job's row is cleared when the job is read.
 use fieldreader::FieldAnswer;
 use fieldreader::field_at;
 use fieldreader::refusal_of;
+use fields::index;
 use fields::name_ok;
 use fields::wide;
-use jobset::Set;
+use fields::word_at;
+use sizes::MAX_BOARDS;
+use sizes::MAX_FILE;
+use sizes::MAX_JOBS;
+use sizes::MAX_SLOTS;
 ghost use mathlib.Core.Path.{_≡_};
 ghost use mathlib.Core.List.{List};
 ghost use Prim.Native.Nat.{ℕ, _<_, _≤_};
-ghost use lib.ListN.{length, replicate};
+ghost use lib.ListN.{length};
 ghost use lib.Dec.{T, eqb};
-ghost use Rattle.rules.specs.Sizes.{maxBoards};
-ghost use Rattle.rules.specs.Basics.{choose, at};
+ghost use Rattle.rules.specs.Sizes.{maxJobs, maxFile, maxBoards};
+ghost use Rattle.rules.specs.Basics.{choose};
+ghost use Rattle.needrows.specs.Rows.{rowsSize};
 ghost use Rattle.rules.specs.JobFile.{lengthOk, isJob, noFields};
-ghost use Rattle.jobset.specs.Arrays.{giversIn, takersIn};
 ghost use Rattle.jobfile.specs.Reading.{stateOf, initial, answerOf};
 ghost use Rattle.jobfile.specs.Reading.{countedMore, FieldAnswered, takeNeed, takeField, completeNumber, Held, Same, Reads};
 ghost use Rattle.jobfile.specs.FieldByField.{allFields};
@@ -84,35 +88,42 @@ fn take_limit(c: Counts, v: &[u8]) -> Counts
     requires { ⌜ (c .fields < 65536) × (1 ≤ length (now v)) ⌝ }
     ensures { λ r. ⌜ FieldAnswered c 2 (now (v .entry)) r ⌝ }
 {
-    let limit = v[0];
+    let limit = wide(v[0]);
     if limit < 1 {
         return refused(6);
     }
-    if 64 < limit {
+    if MAX_SLOTS < limit {
         return refused(6);
     }
     Counts {
         number: 0,
         sockets: c.sockets,
         fields: c.fields + 1,
-        limit: wide(limit),
+        limit,
         jobs: c.jobs,
     }
 }
 
-// A job, whose field stands at offset `at`: questions 6 and 7.
-fn take_job(c: Counts, at: usize, v: &[u8], offsets: &mut [u16; 64]) -> Counts
-    requires { ⌜ (c .fields < 65536) × (c .jobs ≤ 64) × (at < 65536) × (2 ≤ length (now v)) ⌝ }
-    ensures { λ r. ⌜ ((g t : List ℕ) → answerOf r (now (offsets .exit)) g t ≡ takeField (stateOf c (now (offsets .entry)) g t) 3 at (now (v .entry))) ⌝ }
+// A job, whose field stands at offset `at`: questions 6 and 7. It has no taker yet.
+fn take_job(
+    c: Counts,
+    at: usize,
+    v: &[u8],
+    offsets: &mut [u16; MAX_JOBS],
+    rows: &mut [u8],
+) -> Counts
+    requires { ⌜ (c .fields < 65536) × (c .jobs ≤ maxJobs) × (at < 65536) × (2 ≤ length (now v)) × (rowsSize ≤ length (now rows)) ⌝ }
+    ensures { λ r. ⌜ (answerOf r (now (offsets .exit)) (now (rows .exit)) ≡ takeField (stateOf c (now (offsets .entry)) (now (rows .entry))) 3 at (now (v .entry))) × (length (now (rows .exit)) ≡ length (now (rows .entry))) ⌝ }
 {
     if !name_ok(v) {
         return refused(6);
     }
     let jobs = c.jobs;
-    if 64 <= jobs {
+    if MAX_JOBS <= jobs {
         return refused(7);
     }
     offsets[jobs] = at as u16;
+    needrows::clear_row(rows, jobs);
     Counts {
         number: 0,
         sockets: c.sockets,
@@ -122,14 +133,12 @@ fn take_job(c: Counts, at: usize, v: &[u8], offsets: &mut [u16; 64]) -> Counts
     }
 }
 
-// A need: question 8. It goes into the table of givers and into that of takers; a pair that comes again changes neither.
-fn take_need(c: Counts, v: &[u8], tables: &mut [u64; 260]) -> Counts
-    requires { ⌜ (c .fields < 65536) × (c .jobs ≤ 64) × (2 ≤ length (now v)) ⌝ }
-    ensures { λ r. ⌜ ((o : List ℕ) → answerOf r o (giversIn (now (tables .exit))) (takersIn (now (tables .exit))) ≡ takeNeed (stateOf c o (giversIn (now (tables .entry))) (takersIn (now (tables .entry)))) (at (now (v .entry)) 0) (at (now (v .entry)) 1)) × (length (now (tables .exit)) ≡ length (now (tables .entry))) ⌝ }
+// A need between the jobs with these numbers: question 8. The giver gets the taker; a pair that comes again changes nothing.
+fn take_need(c: Counts, giver: usize, taker: usize, rows: &mut [u8]) -> Counts
+    requires { ⌜ (c .fields < 65536) × (c .jobs ≤ maxJobs) × (rowsSize ≤ length (now rows)) ⌝ }
+    ensures { λ r. ⌜ ((o : List ℕ) → answerOf r o (now (rows .exit)) ≡ takeNeed (stateOf c o (now (rows .entry))) giver taker) × (length (now (rows .exit)) ≡ length (now (rows .entry))) ⌝ }
 {
     let jobs = c.jobs;
-    let giver = wide(v[0]);
-    let taker = wide(v[1]);
     if !is_job(jobs, giver) {
         return refused(8);
     }
@@ -139,16 +148,7 @@ fn take_need(c: Counts, v: &[u8], tables: &mut [u64; 260]) -> Counts
     if giver == taker {
         return refused(8);
     }
-    let g = 63 - (giver - 1);
-    let k = 63 - (taker - 1);
-    let givers = Set { bits: tables[k] };
-    let more_givers = givers.with(g);
-    tables[k] = more_givers.bits;
-    let takers = Set {
-        bits: tables[64 + g],
-    };
-    let more_takers = takers.with(k);
-    tables[64 + g] = more_takers.bits;
+    needrows::add(rows, giver - 1, taker - 1);
     counted(c)
 }
 
@@ -161,7 +161,7 @@ fn take_sockets(c: Counts, v: &[u8]) -> Counts
     if sockets < 1 {
         return refused(6);
     }
-    if 8 < sockets {
+    if MAX_BOARDS < sockets {
         return refused(6);
     }
     if c.sockets != 0 {
@@ -182,17 +182,20 @@ fn take_field(
     tag: u8,
     at: usize,
     v: &[u8],
-    offsets: &mut [u16; 64],
-    tables: &mut [u64; 260],
+    offsets: &mut [u16; MAX_JOBS],
+    rows: &mut [u8],
 ) -> Counts
-    requires { ⌜ (c .fields < 65536) × (c .jobs ≤ 64) × (at < 65536) × T (lengthOk tag (length (now v))) ⌝ }
-    ensures { λ r. ⌜ (answerOf r (now (offsets .exit)) (giversIn (now (tables .exit))) (takersIn (now (tables .exit))) ≡ takeField (stateOf c (now (offsets .entry)) (giversIn (now (tables .entry))) (takersIn (now (tables .entry)))) tag at (now (v .entry))) × (length (now (tables .exit)) ≡ length (now (tables .entry))) ⌝ }
+    requires { ⌜ (c .fields < 65536) × (c .jobs ≤ maxJobs) × (at < 65536) × T (lengthOk tag (length (now v))) × (rowsSize ≤ length (now rows)) ⌝ }
+    ensures { λ r. ⌜ (answerOf r (now (offsets .exit)) (now (rows .exit)) ≡ takeField (stateOf c (now (offsets .entry)) (now (rows .entry))) tag at (now (v .entry))) × (length (now (rows .exit)) ≡ length (now (rows .entry))) ⌝ }
 {
     if tag == 3 {
-        return take_job(c, at, v, offsets);
+        return take_job(c, at, v, offsets, rows);
     }
     if tag == 4 {
-        return take_need(c, v, tables);
+        return take_need(c, wide(v[0]), wide(v[1]), rows);
+    }
+    if tag == 6 {
+        return take_need(c, index(word_at(v, 0)), index(word_at(v, 2)), rows);
     }
     if tag == 2 {
         return take_limit(c, v);
@@ -207,9 +210,9 @@ fn take_field(
 }
 
 // All fields, one after the other: questions 3 to 8, and 21.
-fn read_fields(file: &[u8], offsets: &mut [u16; 64], tables: &mut [u64; 260]) -> Counts
-    requires { ⌜ (length (now file) ≤ 16384) × Held (now file) noFields (initial (now offsets) (giversIn (now tables)) (takersIn (now tables))) ⌝ }
-    ensures { λ r. ⌜ Same (now (file .entry)) (allFields (now (file .entry))) (answerOf r (now (offsets .exit)) (giversIn (now (tables .exit))) (takersIn (now (tables .exit)))) × (length (now (tables .exit)) ≡ length (now (tables .entry))) ⌝ }
+fn read_fields(file: &[u8], offsets: &mut [u16; MAX_JOBS], rows: &mut [u8]) -> Counts
+    requires { ⌜ (length (now file) ≤ maxFile) × (rowsSize ≤ length (now rows)) × Held (now file) noFields (initial (now offsets) (now rows)) ⌝ }
+    ensures { λ r. ⌜ Same (now (file .entry)) (allFields (now (file .entry))) (answerOf r (now (offsets .exit)) (now (rows .exit))) × (length (now (rows .exit)) ≡ length (now (rows .entry))) ⌝ }
 {
     let mut c = Counts {
         number: 0,
@@ -224,7 +227,7 @@ fn read_fields(file: &[u8], offsets: &mut [u16; 64], tables: &mut [u64; 260]) ->
         let FieldAnswer::Field { tag, start, end } = f else {
             return refused(refusal_of(f));
         };
-        let next = take_field(c, tag, at, &file[start..end], offsets, tables);
+        let next = take_field(c, tag, at, &file[start..end], offsets, rows);
         if next.number != 0 {
             return next;
         }
@@ -256,20 +259,20 @@ pub fn most_boards(sockets: u8) -> u8
     ensures { λ r. ⌜ r ≡ choose (eqb sockets 0) maxBoards sockets ⌝ }
 {
     if sockets == 0 {
-        return 8;
+        return MAX_BOARDS;
     }
     sockets
 }
 
-// The job file: questions 2 to 8, 10, and 21. The offsets get where the field of each job starts, the tables its givers and its takers.
-pub fn read_file(file: &[u8], offsets: &mut [u16; 64], tables: &mut [u64; 260]) -> Counts
-    requires { ⌜ (length (now offsets) ≡ 64) × (now tables ≡ replicate 260 0) ⌝ }
-    ensures { λ r. ⌜ Reads (now (file .entry)) r (now (offsets .exit)) (giversIn (now (tables .exit))) (takersIn (now (tables .exit))) × (length (now (tables .exit)) ≡ 260) ⌝ }
+// The job file: questions 2 to 8, 10, and 21. The offsets get where the field of each job starts, the rows its takers.
+pub fn read_file(file: &[u8], offsets: &mut [u16; MAX_JOBS], rows: &mut [u8]) -> Counts
+    requires { ⌜ (length (now offsets) ≡ maxJobs) × (rowsSize ≤ length (now rows)) ⌝ }
+    ensures { λ r. ⌜ Reads (now (file .entry)) r (now (offsets .exit)) (now (rows .exit)) × (length (now (rows .exit)) ≡ length (now (rows .entry))) ⌝ }
 {
-    if 16384 < file.len() {
+    if MAX_FILE < file.len() {
         return refused(2);
     }
-    let c = read_fields(file, offsets, tables);
+    let c = read_fields(file, offsets, rows);
     Counts {
         number: complete(c),
         sockets: c.sockets,

@@ -11,7 +11,3 @@ pub mod Lowest
 pub mod Members
 pub mod Rest
 pub mod Size
-pub mod Upper
-pub mod NextFit
-pub mod Highest
-pub mod Arrays

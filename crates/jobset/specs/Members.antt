@@ -130,8 +130,3 @@ fewer-from (suc k) i s t w = go (fewer-from k (suc i) s t w) (member s i) (membe
     go h true false f = absurd (false≢true (f refl))
     go h false true f = omega arith
     go h false false f = h
-
--- a subset has no more members
-pub fewer-members : (s t : Set) → Subset s t → length (members s) ≤ length (members t)
-unfolding members
-fewer-members s t w = fewer-from 64 0 s t w

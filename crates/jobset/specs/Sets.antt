@@ -4,8 +4,8 @@ use mathlib.Core.Bool.{Bool, true, false}
 use mathlib.Core.List.{List, [], _∷_}
 use Prim.Native.Nat.{ℕ, zero, suc, _-_, _/_, _%_, _^_}
 use lib.Bits.{bitAnd, bitOr, bitXor}
-use lib.Count.{leadingZeros, ones, trailingZeros}
-use lib.Dec.{ltb, eqb}
+use lib.Count.{ones, trailingZeros}
+use lib.Dec.{eqb}
 use Rattle.rules.specs.Basics.{choose, at}
 use Rattle.jobset.specs.declared.Set.{Set}
 
@@ -73,27 +73,9 @@ size s = ones (s .bits)
 unfoldable pub lowest : Set → ℕ
 lowest s = trailingZeros 64 (s .bits)
 
--- the highest member of s, where it has one
-unfoldable pub highest : Set → ℕ
-highest s = 63 - leadingZeros 64 (s .bits)
-
 -- of the subset s of t, the subset of t with the next smaller number
 unfoldable pub nextBelow : Set → Set → Set
 nextBelow s t = record { bits = bitAnd (s .bits - 1) (t .bits) }
-
--- s without its k lowest members
-unfoldable pub lessLowest : ℕ → Set → Set
-lessLowest zero s = s
-lessLowest (suc k) s = lessLowest k (nextBelow s s)
-
--- the highest members of s, at most so many
-unfoldable pub upper : ℕ → Set → Set
-upper most s = lessLowest (size s - most) s
-
--- of the subset s of t, with a member, a smaller subset of t; none of just so many members lies between them (law `next-fit`): the next
--- subset without its lowest members, or, where it has too few, s without its lowest member
-unfoldable pub nextFit : ℕ → Set → Set → Set
-nextFit most s t = choose (ltb (size (nextBelow s t)) most) (nextBelow s s) (upper most (nextBelow s t))
 
 -- the members of s among the k places from i up, rising
 unfoldable pub membersFrom : ℕ → ℕ → Set → List ℕ
@@ -105,14 +87,3 @@ membersFrom (suc k) i s =
 -- the members of s, rising
 unfoldable pub members : Set → List ℕ
 members s = membersFrom 64 0 s
-
--- the members of s among the k lowest places, falling: the jobs at these places in rising number
-unfoldable pub fallingFrom : ℕ → Set → List ℕ
-fallingFrom zero s = []
-fallingFrom (suc k) s =
-    let rest = fallingFrom k s in
-    choose (member s k) (k ∷ rest) rest
-
--- the members of s, falling
-unfoldable pub falling : Set → List ℕ
-falling s = fallingFrom 64 s

@@ -1,5 +1,5 @@
 -- When a test made of tests is true. Assumes nothing.
-use mathlib.Core.Path.{_≡_, refl, sym}
+use mathlib.Core.Path.{_≡_, refl, sym, _∙_}
 use mathlib.Core.Bool.{Bool, true, false, not, _||_, false≢true}
 use mathlib.Core.Logic.{_↔_, _⊎_, inl, inr}
 
@@ -22,3 +22,11 @@ pub bool-ext : (a b : Bool) → (a ≡ true → b ≡ true) → (b ≡ true → 
 bool-ext true b f g = sym (f refl)
 bool-ext false true f g = g refl
 bool-ext false false f g = refl
+
+-- a test that is not true is false, and none is both
+pub absent : (b : Bool) → (b ≡ true → ⊥) → b ≡ false
+absent true f = absurd (f refl)
+absent false f = refl
+
+pub present : (b : Bool) → b ≡ true → b ≡ false → ⊥
+present b p q = false≢true (sym q ∙ p)

@@ -1,19 +1,21 @@
 -- Reading a job file that is put together of parts: the fields of the first part, and then those of the rest. Assumes nothing.
 use mathlib.Core.Path.{_≡_, refl, sym, ap, fun-ext, _∙_}
-use mathlib.Core.Bool.{_&&_}
+use mathlib.Core.Bool.{not, _&&_}
 use mathlib.Core.List.{List, [], _++_}
 use Prim.Native.Nat.{ℕ, zero, suc, _+_, _-_, _≤_, _<_}
 use native.Mathlib.Omega.{arith}
 use lib.ListN.{length, take, drop, length-append, length-drop, List·getD-append}
 use lib.Seq.{take-append-le, drop-append-le, drop-append-add, getD-append-add}
-use lib.Dec.{T, leb, ltb}
+use lib.Dec.{T, leb, ltb, eqb}
 use Rattle.rules.specs.Sizes.{maxFile}
 use Rattle.rules.specs.Basics.{choose, at}
 use Rattle.rules.specs.Fields.{Answer, refused, got, ask, after, part, field, fieldEnd, value, whole, overFields}
-use Rattle.rules.specs.JobFile.{JobFile, knownTag, inPlace, lengthOk, contentOk, addField, readField, noFields, complete, readFile}
-use Rattle.laws.specs.Tests.{T-leb, T-ltb, bool-ext, by-choice}
-use Rattle.laws.specs.Fields.{ask-got, after-got, ask-yes, GotBeside, got-beside, ask-beside, choose-beside, after-beside}
+use Rattle.rules.specs.JobFile.{JobFile, knownTag, inPlace, lengthOk, contentOk, withNeed, isNeed, giverOf, takerOf, needOf, isJob}
+use Rattle.rules.specs.JobFile.{addNeed, addField, readField, noFields, complete, readFile}
+use Rattle.laws.specs.Tests.{T-and, T-leb, T-ltb, bool-ext, by-choice}
+use Rattle.laws.specs.Fields.{got-same, ask-got, after-got, ask-yes, GotBeside, got-beside, ask-beside, choose-beside, after-beside}
 use Rattle.laws.specs.Fields.{whole-is, after-head, overFields-step, overFields-end, overFields-enough}
+use Rattle.laws.specs.JobFile.{place-late, need-late, add-need}
 use Rattle.laws.specs.Table.{field-at}
 
 -- ---- what is read from an offset on
@@ -242,6 +244,26 @@ pub askField-beside : (R : JobFile → JobFile → Type 0) {u : JobFile} (s t : 
     → (T (inPlace (s .fields) tag) → T (inPlace (t .fields) tag)) → (addField s tag v ≡ got u → GotBeside R u (addField t tag v))
     → askField s tag v ≡ got u → GotBeside R u (askField t tag v)
 askField-beside R s t tag v place add = ask-beside R _ _ 4 (λ h. h) (ask-beside R _ _ 5 place (ask-beside R _ _ 6 (λ h. h) add))
+
+-- a need that is not refused: it stands behind header and limit, is as long as its tag says, its jobs are there and differ, and it is added
+pub record NeedAsked (f e : JobFile) (tag : ℕ) (v : List ℕ) : Type 0 where
+  pub late : 2 ≤ f .fields
+  pub long : T (lengthOk tag (length v))
+  pub both-jobs : T (isJob (length (f .jobs)) (giverOf tag v) && (isJob (length (f .jobs)) (takerOf tag v) && not (eqb (giverOf tag v) (takerOf tag v))))
+  pub reads : withNeed f (needOf tag v) ≡ e
+
+pub need-asked : (f e : JobFile) (tag : ℕ) (v : List ℕ) → T (isNeed tag) → askField f tag v ≡ got e → NeedAsked f e tag v
+unfolding addNeed
+need-asked f e tag v need q =
+    let q5 = ask-got (inPlace (f .fields) tag) 5 _ e (ask-got (knownTag tag) 4 _ e q .1) in
+    let q6 = ask-got (lengthOk tag (length v) && contentOk tag v) 6 _ e (q5 .1) in
+    let q8 = ask-got _ 8 (got (withNeed f (needOf tag v))) e (sym (add-need f tag v need) ∙ q6 .1) in
+    record {
+      late = place-late (f .fields) tag (q5 .0) (need-late tag need);
+      long = T-and (lengthOk tag (length v)) (contentOk tag v) .0 (q6 .0) .0;
+      both-jobs = q8 .0;
+      reads = got-same (withNeed f (needOf tag v)) e (q8 .1);
+    }
 
 -- of a field in front these are asked, and then the fields behind it are read
 pub readFrom-field : (tag : ℕ) (v zs : List ℕ) → length v < 65536 → (f : JobFile) → readFrom (field tag v ++ zs) 0 f ≡ after (askField f tag v) (readFrom zs 0)

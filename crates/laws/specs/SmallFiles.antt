@@ -16,7 +16,7 @@ use Rattle.rules.specs.Numbers.{Bytes, word, signed}
 use Rattle.rules.specs.Fields.{Answer, got, after, field}
 use Rattle.rules.specs.Needs.{Need, Gives, NeedsIn}
 use Rattle.rules.specs.JobFile.{fieldRows, firstRow, fieldRow, Job, JobFile, mostBoards, nameByte, knownTag, inPlace, lengthOk, contentOk}
-use Rattle.rules.specs.JobFile.{counted, withLimit, withJob, withNeed, jobOf, isJob, addNeed, addField, noFields, complete, readFile}
+use Rattle.rules.specs.JobFile.{counted, withLimit, withJob, withNeed, jobOf, isJob, addNeed, isNeed, giverOf, takerOf, addField, noFields, complete, readFile}
 use Rattle.rules.specs.Answers.{planTable}
 use Rattle.rules.specs.SmallGates.{bit, needBit, pairs, needsOf, gateb, gates, jobField, needField, gateFile}
 use Rattle.rules.specs.SmallGates.{fewest, slotsIn, plannedSlots}
@@ -62,7 +62,7 @@ field-read tag v zs f g short q4 q5 q6 adds =
 
 -- the header
 header-read : (zs : List ℕ) → readFrom (field 1 (1 ∷ []) ++ zs) 0 noFields ≡ readFrom zs 0 (counted noFields)
-unfolding knownTag inPlace lengthOk contentOk fieldRow firstRow fieldRows any choose noFields addField
+unfolding knownTag inPlace lengthOk contentOk fieldRow firstRow fieldRows any choose noFields isNeed addField
 header-read zs = field-read 1 (1 ∷ []) zs noFields (counted noFields) (omega arith) tt tt tt refl
 
 -- the limit
@@ -102,7 +102,7 @@ jobs-read limit (suc c) i zs h =
 -- a need between two different ones of the n jobs, behind needs that it is not among
 need-read : (n : ℕ) (es : List Need) (g k : ℕ) (zs : List ℕ) → g < n → k < n → g ≢ k → ¬ (Gives es g k)
     → readFrom (needField (g, k) ++ zs) 0 (readSoFar n n es) ≡ readFrom zs 0 (readSoFar n n (es ++ (g, k) ∷ []))
-unfolding needField knownTag lengthOk contentOk fieldRow firstRow fieldRows any choose addField addNeed isJob withNeed
+unfolding needField knownTag lengthOk contentOk fieldRow firstRow fieldRows any choose isNeed giverOf takerOf addField addNeed isJob withNeed
 need-read n es g k zs g-in k-in apart new =
     field-read 4 (suc g ∷ suc k ∷ []) zs (readSoFar n n es) (readSoFar n n (es ++ (g, k) ∷ [])) (omega arith) tt in-place tt adds
   where

@@ -15,7 +15,7 @@ use Rattle.rules.specs.Basics.{choose, at, filter}
 use Rattle.rules.specs.Numbers.{Bytes}
 use Rattle.rules.specs.Fields.{Answer, got, ask, after, value}
 use Rattle.rules.specs.Needs.{Need, Gives, givesb, insertNeed, Circle, circleFree}
-use Rattle.rules.specs.JobFile.{JobFile, mostBoards, knownTag, inPlace, lengthOk, contentOk, counted, withLimit, withSockets, withJob, withNeed, jobOf}
+use Rattle.rules.specs.JobFile.{JobFile, mostBoards, knownTag, inPlace, lengthOk, contentOk, counted, withLimit, withSockets, withJob, withNeed, jobOf, isNeed, needOf}
 use Rattle.rules.specs.JobFile.{addNeed, addSockets, addField, noFields, complete, readFile}
 use Rattle.rules.specs.Windows.{release, tail, width}
 use Rattle.rules.specs.Preference.{best}
@@ -26,13 +26,13 @@ use Rattle.rules.specs.Implied.{impliedNeeds, impliedIn, struck, needAt, strike
 use Rattle.laws.specs.Tests.{T-and, T-not, T-eqb, tests, by-test, bool-ext, by-choice, choose-yes, choose-no}
 use Rattle.laws.specs.Lists.{filter-mem, filter-mem⁻¹, filter-append}
 use Rattle.laws.specs.Fields.{got-same, ask-got, after-got, ask-yes, GotBeside, got-beside, ask-beside, choose-beside}
-use Rattle.laws.specs.JobFile.{Readable, needs-in, place-late, place-same, readable}
+use Rattle.laws.specs.JobFile.{Readable, needs-in, place-same, readable}
 use Rattle.laws.specs.Program.{gives-is}
 use Rattle.laws.specs.Needs.{insert-known, insert-new}
 use Rattle.laws.specs.Circles.{circle-free}
 use Rattle.laws.specs.Width.{fileWidth}
 use Rattle.laws.specs.Best.{best-is}
-use Rattle.laws.specs.FileParts.{askField, askField-beside}
+use Rattle.laws.specs.FileParts.{askField, askField-beside, need-asked}
 use Rattle.laws.specs.FieldsBut.{fieldsBut-bytes, readFile-but}
 use Rattle.laws.specs.Struck.{Shorter, struck-shorter, shorter-in, shorter-free, same-release, same-deadline, same-width, same-best, same-boards}
 use Rattle.laws.specs.Struck.{same-needs-kept, struck-none}
@@ -77,36 +77,33 @@ module _ (p : Need → Bool) where
   file-beside k s h = got-beside Beside s (fewer k s) record { count = k; reads = refl; place = h }
 
   -- what a field adds to both, where it is no need or one that passes
-  add-beside : (k : ℕ) (s u : JobFile) (tag : ℕ) (v : List ℕ) → min 2 (s .fields) ≡ min 2 k → (T (eqb tag 4) → T (p (at v 0 - 1, at v 1 - 1)))
+  add-beside : (k : ℕ) (s u : JobFile) (tag : ℕ) (v : List ℕ) → min 2 (s .fields) ≡ min 2 k → (T (isNeed tag) → T (p (needOf tag v)))
       → addField s tag v ≡ got u → GotBeside Beside u (addField (fewer k s) tag v)
   unfolding addField addNeed addSockets counted withLimit withSockets withJob withNeed
   add-beside k s u tag v h passes =
       choose-beside Beside (eqb tag 2) (λ _. file-beside (suc k) (withLimit s (at v 0)) (omega arith))
       (choose-beside Beside (eqb tag 3) (λ _. ask-beside Beside _ _ 7 (λ t. t) (file-beside (suc k) (withJob s (jobOf v)) (omega arith)))
-      (choose-beside Beside (eqb tag 4) (λ four. ask-beside Beside _ _ 8 (λ t. t)
-      (rw (← (one-left (s .needs) (at v 0 - 1, at v 1 - 1) (passes four))) (file-beside (suc k) (withNeed s (at v 0 - 1, at v 1 - 1)) (omega arith))))
+      (choose-beside Beside (isNeed tag) (λ need. ask-beside Beside _ _ 8 (λ t. t)
+      (rw (← (one-left (s .needs) (needOf tag v) (passes need))) (file-beside (suc k) (withNeed s (needOf tag v)) (omega arith))))
       (choose-beside Beside (eqb tag 9) (λ _. ask-beside Beside _ _ 21 (λ t. t) (file-beside (suc k) (withSockets s (at v 0)) (omega arith)))
       (file-beside (suc k) (counted s) (omega arith)))))
 
   -- a field that both read
-  kept-beside : (s t u : JobFile) (tag : ℕ) (v : List ℕ) → (T (eqb tag 4) → T (p (at v 0 - 1, at v 1 - 1)))
+  kept-beside : (s t u : JobFile) (tag : ℕ) (v : List ℕ) → (T (isNeed tag) → T (p (needOf tag v)))
       → Beside s t → askField s tag v ≡ got u → GotBeside Beside u (askField t tag v)
   kept-beside s t u tag v passes b =
       rw (b .reads) (askField-beside Beside s (fewer (b .count) s) tag v (place-same (s .fields) (b .count) tag (b .place))
       (add-beside (b .count) s u tag v (b .place) passes))
 
   -- a need that does not pass, read by the first alone; it stands behind header and limit
-  gone-beside : (s t u : JobFile) (v : List ℕ) → (T (p (at v 0 - 1, at v 1 - 1)) → ⊥) → Beside s t → askField s 4 v ≡ got u → Beside u t
-  unfolding addField addNeed choose withNeed
-  gone-beside s t u v fails b e =
-      let d : Need = (at v 0 - 1, at v 1 - 1) in
-      let q5 = ask-got (inPlace (s .fields) 4) 5 _ u (ask-got (knownTag 4) 4 _ u e .1) in
-      let q6 = ask-got (lengthOk 4 (length v) && contentOk 4 v) 6 _ u (q5 .1) in
-      let q8 = ask-got _ 8 (got (withNeed s d)) u (q6 .1) in
-      subst (λ (x : JobFile). Beside x t) (got-same (withNeed s d) u (q8 .1)) record {
+  gone-beside : (s t u : JobFile) (tag : ℕ) (v : List ℕ) → T (isNeed tag) → (T (p (needOf tag v)) → ⊥) → Beside s t → askField s tag v ≡ got u → Beside u t
+  unfolding withNeed
+  gone-beside s t u tag v need fails b e =
+      let w = need-asked s u tag v need e in
+      subst (λ (x : JobFile). Beside x t) (w .reads) record {
         count = b .count;
-        reads = b .reads ∙ ap (λ (ds : List Need). withNeeds (b .count) ds s) (sym (one-gone (s .needs) d fails));
-        place = omega (arith, b .place, place-late (s .fields) 4 (q5 .0) (omega arith));
+        reads = b .reads ∙ ap (λ (ds : List Need). withNeeds (b .count) ds s) (sym (one-gone (s .needs) (needOf tag v) fails));
+        place = omega (arith, b .place, w .late);
       }
 
   -- question 10 is answered by both
@@ -138,16 +135,16 @@ strike-read ds bs bytes f read =
     p d = not (givesb ds (d .0) (d .1))
 
     gone : (s t u : JobFile) (a : ℕ) → T (needAt ds bs a) → Beside p s t → askField s (at bs a) (value bs a) ≡ got u → Beside p u t
-    gone s t u a h b e =
-        let v = value bs a in
-        let w = T-and (eqb (at bs a) 4) (givesb ds (at v 0 - 1) (at v 1 - 1)) .0 h in
-        gone-beside p s t u v (λ k. T-not (givesb ds (at v 0 - 1) (at v 1 - 1)) .0 k (w .1)) b (rw (T-eqb (at bs a) 4 .0 (w .0)) at e)
+    gone s t u a h =
+        let d = needOf (at bs a) (value bs a) in
+        let w = T-and (isNeed (at bs a)) (givesb ds (d .0) (d .1)) .0 h in
+        gone-beside p s t u (at bs a) (value bs a) (w .0) (λ k. T-not (givesb ds (d .0) (d .1)) .0 k (w .1))
 
     kept : (s t u : JobFile) (a : ℕ) → (T (needAt ds bs a) → ⊥) → Beside p s t → askField s (at bs a) (value bs a) ≡ got u
         → GotBeside (Beside p) u (askField t (at bs a) (value bs a))
     kept s t u a h =
-        let v = value bs a in
-        kept-beside p s t u (at bs a) v (λ four. T-not (givesb ds (at v 0 - 1) (at v 1 - 1)) .1 (λ k. h (T-and (eqb (at bs a) 4) _ .1 (four, k))))
+        let d = needOf (at bs a) (value bs a) in
+        kept-beside p s t u (at bs a) (value bs a) (λ need. T-not (givesb ds (d .0) (d .1)) .1 (λ k. h (T-and (isNeed (at bs a)) _ .1 (need, k))))
 
     from : (g : JobFile) → Beside p f g → StruckFrom ds f g
     from g b = record {

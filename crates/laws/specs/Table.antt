@@ -179,7 +179,7 @@ unfolding rowsBytes rowBytes field
 rows-length [] ok = omega arith
 rows-length (r ∷ rs) ok = omega (arith, rows-length rs (ok .1), name-length (r .name) (ok .0 .name-ok), length-append (rowBytes r) (rowsBytes rs))
 
--- "The longest table is 1,222 bytes"
+-- the longest table is 7,606 bytes (document 02, request 8)
 pub encode-length : (t : Table) → TableOk t → length (t .rows) ≤ maxJobs → length (encode t) ≤ tableSize
 unfolding encode field
 encode-length t ok h = omega (arith, rows-length (t .rows) (ok .rows-ok))

@@ -1,5 +1,6 @@
 // The planner's answer to a job file, as a line.
 use libc::STDOUT_FILENO;
+use sizes::TABLE_BYTES;
 ghost use mathlib.Core.Path.{_≡_};
 ghost use lib.ListN.{length};
 
@@ -17,10 +18,10 @@ fn noise() -> [u8; 65536]
 }
 
 // A table buffer that is full of noise.
-fn noise_table() -> [u8; 1222]
-    ensures { λ r. ⌜ 1222 ≡ length r ⌝ }
+fn noise_table() -> [u8; TABLE_BYTES]
+    ensures { λ r. ⌜ 7606 ≡ length r ⌝ }
 {
-    [NOISE; 1222]
+    [NOISE; TABLE_BYTES]
 }
 
 fn print(text: &[u8]) {
@@ -32,17 +33,17 @@ fn print_number(n: u32) {
 }
 
 // A byte of the table, 0 behind its buffer.
-fn byte(table: &[u8; 1222], at: usize) -> u8 {
-    if at < 1222 { table[at] } else { 0 }
+fn byte(table: &[u8; TABLE_BYTES], at: usize) -> u8 {
+    if at < TABLE_BYTES { table[at] } else { 0 }
 }
 
-fn print_byte(table: &[u8; 1222], at: usize) {
+fn print_byte(table: &[u8; TABLE_BYTES], at: usize) {
     print(b" ");
     print_number(byte(table, at) as u32);
 }
 
 // Every byte of a table of so many.
-fn print_bytes(table: &[u8; 1222], size: usize) {
+fn print_bytes(table: &[u8; TABLE_BYTES], size: usize) {
     let mut at = 0;
     while at < size {
         print_byte(table, at);
@@ -51,28 +52,28 @@ fn print_bytes(table: &[u8; 1222], size: usize) {
 }
 
 // Every eighth byte of a table of so many from this place on: a value of each job, where each name has one byte.
-fn print_column(table: &[u8; 1222], size: usize, first: usize) {
+fn print_column(table: &[u8; TABLE_BYTES], size: usize, first: usize) {
     let mut at = first;
-    while at < 1222 && at < size {
+    while at < TABLE_BYTES && at < size {
         print_byte(table, at);
         at += 8;
     }
 }
 
 // A name and a byte.
-fn print_one(name: &[u8], table: &[u8; 1222], at: usize) {
+fn print_one(name: &[u8], table: &[u8; TABLE_BYTES], at: usize) {
     print(name);
     print_byte(table, at);
 }
 
 // A name and a value of each job.
-fn print_each(name: &[u8], table: &[u8; 1222], size: usize, first: usize) {
+fn print_each(name: &[u8], table: &[u8; TABLE_BYTES], size: usize, first: usize) {
     print(name);
     print_column(table, size, first);
 }
 
 // A table of so many bytes.
-fn print_table(table: &[u8; 1222], size: usize) {
+fn print_table(table: &[u8; TABLE_BYTES], size: usize) {
     print_one(b": slots", table, 4);
     print_one(b" boards", table, 5);
     print_each(b" starts", table, size, 9);
@@ -80,7 +81,7 @@ fn print_table(table: &[u8; 1222], size: usize) {
 }
 
 // What the check says of a table of so many bytes.
-fn print_check(file: &[u8], table: &[u8; 1222], size: usize) {
+fn print_check(file: &[u8], table: &[u8; TABLE_BYTES], size: usize) {
     print(b", check ");
     print_number(gate::gate_check(file, drafts::front(table, size)));
 }
@@ -95,7 +96,7 @@ fn print_refused(label: &[u8], number: u32) {
 }
 
 // The label, and the table with what the check says of it or the refusal.
-fn print_answer(label: &[u8], file: &[u8], table: &[u8; 1222], number: u32) {
+fn print_answer(label: &[u8], file: &[u8], table: &[u8; TABLE_BYTES], number: u32) {
     if number < REFUSED {
         print(label);
         print_table(table, number as usize);
@@ -162,7 +163,7 @@ pub(crate) fn plan_short_work(label: &[u8], file: &[u8]) {
 // The line of a job file with a table buffer that is one byte short.
 pub(crate) fn plan_short_table(label: &[u8], file: &[u8]) {
     let mut work = noise();
-    let mut table = [NOISE; 1221];
+    let mut table = [NOISE; TABLE_BYTES - 1];
     let number = answer(file, &mut work, &mut table);
     print_refused(label, number);
     print_buffers(&work, &table, number);

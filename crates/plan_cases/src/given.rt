@@ -1,8 +1,10 @@
-// The cases of document 01 whose files are given by their bytes (tag 9 as document 02, request 13, has it), exact halves of a centimetre (request 4), and files for the refusals that it names no case of.
+// The cases of document 01 whose files are given by their bytes (tag 9 as document 02, request 13, has it), exact halves of a centimetre (request 4),
+// needs by tag 6 and the sizes of request 8, and files for the refusals that they name no case of.
 use crate::answers::plan;
 use crate::answers::plan_bytes;
 use crate::answers::plan_short_table;
 use crate::answers::plan_short_work;
+use sizes::MAX_FILE;
 
 // Limit 3; jobs of 15, -15 and 4 millimetres with the names a, b and c; needs 1-3 and 2-3.
 fn example() {
@@ -11,7 +13,7 @@ fn example() {
     plan(b"the example", file);
     plan_bytes(b"its table", file);
     plan_short_work(b"1 a working buffer of 65535", file);
-    plan_short_table(b"1 a table buffer of 1221", file);
+    plan_short_table(b"1 a table buffer of 7605", file);
 }
 
 // Limit 1; jobs a to h, each with an exact half of a centimetre: 25, 35, -25, 15, 5, -5, 45 and -15 millimetres.
@@ -28,9 +30,11 @@ fn first_fields() {
     plan(b"5 tag 9 first", b"\x09\x00\x00");
     plan(b"5 tag 9 second", b"\x01\x01\x00\x01\x09\x01\x00\x02");
     plan(b"5 tag 3 first", b"\x03\x03\x00\x0f\x00a");
+    plan(b"5 tag 6 first", b"\x06\x00\x00");
 }
 
 fn later_fields() {
+    plan(b"4 tag 7", b"\x01\x01\x00\x01\x02\x01\x00\x03\x07\x00\x00");
     plan(b"4 tag 10", b"\x01\x01\x00\x01\x02\x01\x00\x03\x0a\x00\x00");
     plan(b"3 half a head", b"\x01\x01\x00\x01\x02\x01\x00\x03\x03");
     plan(
@@ -44,6 +48,26 @@ fn later_fields() {
     plan(b"6 limit 65", b"\x01\x01\x00\x01\x02\x01\x00\x41");
 }
 
+// Two jobs and a field of tag 6: the need 1-2, alone and behind the same by tag 4; one from job 257; one with numbers of one byte.
+fn wide_needs() {
+    plan(
+        b"the need 1-2 by tag 6",
+        b"\x01\x01\x00\x01\x02\x01\x00\x02\x03\x03\x00\x0f\x00a\x03\x03\x00\x0f\x00b\x06\x04\x00\x01\x00\x02\x00",
+    );
+    plan(
+        b"by tag 4 and by tag 6",
+        b"\x01\x01\x00\x01\x02\x01\x00\x02\x03\x03\x00\x0f\x00a\x03\x03\x00\x0f\x00b\x04\x02\x00\x01\x02\x06\x04\x00\x01\x00\x02\x00",
+    );
+    plan(
+        b"8 job 257 of two",
+        b"\x01\x01\x00\x01\x02\x01\x00\x02\x03\x03\x00\x0f\x00a\x03\x03\x00\x0f\x00b\x06\x04\x00\x01\x01\x02\x00",
+    );
+    plan(
+        b"6 tag 6 of two bytes",
+        b"\x01\x01\x00\x01\x02\x01\x00\x02\x03\x03\x00\x0f\x00a\x03\x03\x00\x0f\x00b\x06\x02\x00\x01\x02",
+    );
+}
+
 // Bytes at the front of a file.
 fn put(file: &mut [u8], bytes: &[u8]) {
     let mut i = 0;
@@ -55,22 +79,22 @@ fn put(file: &mut [u8], bytes: &[u8]) {
 
 // One job, limit 1, and a comment up to the last byte that a file may have.
 fn longest() {
-    let mut file = [0; 16384];
+    let mut file = [0; MAX_FILE];
     put(
         &mut file,
-        b"\x01\x01\x00\x01\x02\x01\x00\x01\x03\x03\x00\x0f\x00a\x05\xef\x3f",
+        b"\x01\x01\x00\x01\x02\x01\x00\x01\x03\x03\x00\x0f\x00a\x05\xef\xbf",
     );
-    plan(b"a file of 16384 bytes", &file);
+    plan(b"a file of 49152 bytes", &file);
 }
 
 // The same with a comment that is one byte longer.
 fn too_long() {
-    let mut file = [0; 16385];
+    let mut file = [0; MAX_FILE + 1];
     put(
         &mut file,
-        b"\x01\x01\x00\x01\x02\x01\x00\x01\x03\x03\x00\x0f\x00a\x05\xf0\x3f",
+        b"\x01\x01\x00\x01\x02\x01\x00\x01\x03\x03\x00\x0f\x00a\x05\xf0\xbf",
     );
-    plan(b"2 a file of 16385 bytes", &file);
+    plan(b"2 a file of 49153 bytes", &file);
 }
 
 pub(crate) fn all() {
@@ -78,6 +102,7 @@ pub(crate) fn all() {
     halves();
     first_fields();
     later_fields();
+    wide_needs();
     longest();
     too_long();
 }

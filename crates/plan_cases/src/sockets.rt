@@ -2,16 +2,17 @@
 use crate::answers::plan;
 use crate::paper::put_needs;
 use crate::paper::with_needs;
+use sizes::TABLE_BYTES;
 ghost use Prim.Native.Nat.{_≤_};
 
 // Needs 2-3, 3-4 and 5-4.
 const NEEDS: [u8; 6] = [2, 3, 3, 4, 5, 4];
 
 // So many jobs, the most boards, and these needs.
-fn with_sockets(label: &[u8], limit: u8, jobs: u8, boards: u8, needs: &[u8])
-    requires { ⌜ jobs ≤ 65 ⌝ }
+fn with_sockets(label: &[u8], limit: u8, jobs: usize, boards: u8, needs: &[u8])
+    requires { ⌜ jobs ≤ 401 ⌝ }
 {
-    let mut file = [0; 1222];
+    let mut file = [0; TABLE_BYTES];
     let end = drafts::put_jobs(&mut file, limit, jobs);
     let from = drafts::put_sockets(&mut file, end, boards);
     let size = put_needs(&mut file, from, needs);

@@ -1,6 +1,5 @@
--- What the planner gives (Planner), and its laws, each module after those it cites. Assumes nothing.
+-- What the planner gives (Planner), question by question (Asked), and the table of the plan that it finds (Seated, Tabled). Assumes nothing.
 pub mod Planner
-pub mod Filling
-pub mod Searched
+pub mod Seated
 pub mod Tabled
 pub mod Asked

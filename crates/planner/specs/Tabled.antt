@@ -1,36 +1,39 @@
--- From what the search finds to the answer: no table, or the table of the best start list. Assumes nothing.
-use mathlib.Core.Path.{_≡_, refl, ap, _∙_}
+-- From the plan that was found to the table of the best start list. Assumes nothing.
+use mathlib.Core.Path.{_≡_, refl, sym, ap, ap₂, _∙_}
 use mathlib.Core.List.{List, _++_}
-use mathlib.Core.Option.{Option, none, some}
-use Prim.Native.Nat.{ℕ, _-_, _≤_, _<_}
+use mathlib.Core.Option.{Option, some}
+use Prim.Native.Nat.{ℕ, _≤_, _<_}
 use native.Mathlib.Omega.{arith}
-use lib.ListN.{length, drop, length-drop}
-use Rattle.rules.specs.Basics.{at, tabulate}
+use lib.ListN.{length, take, drop, replicate, length-drop, length-take}
+use lib.Seq.{ext-getD, getD-take}
+use Rattle.rules.specs.Basics.{at, tabulate, largest}
 use Rattle.rules.specs.Numbers.{centimetres}
 use Rattle.rules.specs.Fields.{Answer, refused, got, after, value}
-use Rattle.rules.specs.Needs.{Gives}
+use Rattle.rules.specs.Needs.{Gives, NeedsIn, Circle}
 use Rattle.rules.specs.JobFile.{JobFile, nthJob, nameOk, mostBoards, jobOf, readFile}
 use Rattle.rules.specs.Program.{slots, Kept, Fits}
+use Rattle.rules.specs.Windows.{width}
 use Rattle.rules.specs.Preference.{best}
 use Rattle.rules.specs.Boards.{boards, runsb}
 use Rattle.rules.specs.Table.{Table, encode}
 use Rattle.rules.specs.Answers.{tableOf, tabled, planTable, written}
 use Rattle.laws.specs.Tests.{tests}
-use Rattle.laws.specs.Lists.{nth-mem, tabulate-same}
-use Rattle.laws.specs.Program.{program-is, slots-pos}
+use Rattle.laws.specs.Lists.{nth-mem, tabulate-at, tabulate-same}
+use Rattle.laws.specs.Program.{program-is}
+use Rattle.laws.specs.Circles.{circle-free}
 use Rattle.laws.specs.Best.{Shortest, best-found}
 use Rattle.laws.specs.Planned.{asked-13, few-boards}
-use Rattle.laws.specs.Places.{by-place-at, byPlace}
-use Rattle.jobset.specs.Arrays.{giversIn, takersIn, givers-front}
-use Rattle.search.specs.declared.Found.{Found}
-use Rattle.boards.specs.declared.Placed.{Placed}
-use Rattle.boards.specs.Placing.{Startable, placed}
-use Rattle.boards.specs.PlacingLaws.{rulesPlaced, place-is}
-use Rattle.optimal.specs.SearchIsBest.{answerOf}
+use Rattle.jobset.specs.Sets.{setAt}
+use Rattle.places.specs.OfFile.{fileWindows}
+use Rattle.layout.specs.Layout.{tablesIn}
+use Rattle.shortest.specs.Starts as plans
+use Rattle.seats.specs.Order.{seatsBy}
+use Rattle.lengths.specs.Searching.{PlacesIn, listFound}
+use Rattle.slotboards.specs.Placing.{Placeable, Boarded}
 use Rattle.writer.specs.Written.{rowWith, tableWith, JobFields}
 use Rattle.planner.specs.declared.Planned.the-variants as made
-use Rattle.planner.specs.Planner.{Answers, size, JobsRead, WindowsRead}
-use Rattle.planner.specs.Searched.{jobs-few, limit-few, file-needs, no-circle}
+use Rattle.planner.specs.Planner.{Answers, JobsRead, PlanRead}
+use Rattle.planner.specs.Seated.{placeable}
 
 -- ---- answers
 
@@ -38,13 +41,27 @@ pub answers-refused : (bs : List ℕ) (q : ℕ) (table : List ℕ) → after (re
 unfolding Answers written
 answers-refused bs q table e = λ work. rw e refl
 
-pub answers-table : (bs : List ℕ) (t : Table) (n : ℕ) (table table′ : List ℕ) → after (readFile bs) planTable ≡ got t → n ≡ length (encode t) → table′ ≡ encode t ++ drop n table → Answers bs (made.Table n) table table′
+pub answers-table : (bs : List ℕ) (t : Table) (n : ℕ) (table table′ : List ℕ) → after (readFile bs) planTable ≡ got t → n ≡ length (encode t)
+    → table′ ≡ encode t ++ drop n table → Answers bs (made.Table n) table table′
 unfolding Answers written
 answers-table bs t n table table′ e k h = λ work. rw (e, h, k) refl
 
--- ---- the fields of the jobs
+module _ {bs : List ℕ} {n L : ℕ} {o rows : List ℕ} (j : JobsRead bs n L o rows) where
+  -- the rules' best list, by the counts that were read
+  pub best-same : best n (runsb n (j .file .needs) (mostBoards (j .file))) L
+      ≡ best (length (j .file .jobs)) (runsb (length (j .file .jobs)) (j .file .needs) (mostBoards (j .file))) (j .file .limit)
+  best-same = ap₂ (λ (k l : ℕ). best k (runsb k (j .file .needs) (mostBoards (j .file))) l) (j .held .jobs-is) (j .held .limit-is)
 
-module _ (bs : List ℕ) (n L : ℕ) (o g t : List ℕ) (j : JobsRead bs n L o g t) where
+  -- without a circle, and not too wide, it decides the answer
+  pub tabled-is : ¬ (Circle (j .file .needs)) → width n (j .file .needs) L ≤ 8 → (x : Option (List ℕ)) → best n (runsb n (j .file .needs) (mostBoards (j .file))) L ≡ x
+      → after (readFile bs) planTable ≡ tabled (j .file) x
+  unfolding after
+  tabled-is free narrow x e =
+      ap (λ (r : Answer JobFile). after r planTable) (j .read)
+      ∙ asked-13 (j .file) (j .keeps) free (rw (j .held .jobs-is, j .held .limit-is) at narrow) ∙ ap (tabled (j .file)) (sym best-same ∙ e)
+
+  -- ---- the fields of the jobs
+
   -- the value of job i has its level and its name
   value-size : (i : ℕ) → i < n → (3 ≤ length (value bs (at o i))) × (length (value bs (at o i)) ≤ 14)
   unfolding jobOf nameOk
@@ -56,120 +73,111 @@ module _ (bs : List ℕ) (n L : ℕ) (o g t : List ℕ) (j : JobsRead bs n L o g
   pub job-fields : JobFields bs o n
   job-fields = record { are-whole = λ i h. j .held .offsets-whole i h; long = λ i h. value-size i h .0; short = λ i h. value-size i h .1 }
 
--- ---- what was found
+-- ---- the plan that was found
 
-module _ (bs : List ℕ) (n L cap : ℕ) (o sets : List ℕ) (least : ℕ) (w : WindowsRead bs n L cap o sets least) where
-  abbrev g : List ℕ
-  g = giversIn sets
+module _ {bs : List ℕ} {n : ℕ} {o words path : List ℕ} {count : ℕ} (p : PlanRead bs n o words path count) where
+  -- the file, and the start list of the plan
+  abbrev f : JobFile
+  f = p .jobs .file
 
-  abbrev t : List ℕ
-  t = takersIn sets
+  abbrev pub listOf : List ℕ
+  listOf = listFound (fileWindows n (p .jobs .file .needs) (p .limit)) (mostBoards (p .jobs .file)) (p .limit) count words
 
-  -- the rules' best list
-  abbrev bestList : Option (List ℕ)
-  bestList = best (size (w .jobs .file)) (runsb (size (w .jobs .file)) (w .jobs .file .needs) (mostBoards (w .jobs .file))) (w .jobs .file .limit)
+  needs-in : NeedsIn n (f .needs)
+  needs-in = p .jobs .held .needs-in
 
-  search-13 : (x : Option (List ℕ)) → bestList ≡ x → after (readFile bs) planTable ≡ tabled (w .jobs .file) x
-  unfolding after
-  search-13 x e =
-      ap (λ (r : Answer JobFile). after r planTable) (w .jobs .read)
-      ∙ asked-13 (w .jobs .file) (w .jobs .keeps) (no-circle bs n L cap o sets least w) (w .narrow) ∙ ap (tabled (w .jobs .file)) e
+  no-circle : ¬ (Circle (f .needs))
+  no-circle = circle-free n (f .needs) needs-in .0 (p .free)
 
-  module _ (found : Found) (is : found ≡ answerOf (bestList)) where
-    -- nothing was found: 13
-    pub none-found : (table : List ℕ) → found .slots ≡ 0 → Answers bs (made.Refused 13) table table
-    unfolding answerOf tabled
-    none-found table z = go (bestList) refl
-      where
-        go : (x : Option (List ℕ)) → bestList ≡ x → Answers bs (made.Refused 13) table table
-        go none e = answers-refused bs 13 table (search-13 none e)
-        go (some u) e = absurd (omega (arith, slots-pos u, z, ap (λ (y : Found). y .slots) (is ∙ ap answerOf e)))
+  -- it is the rules' best list
+  is-best : best n (runsb n (f .needs) (mostBoards f)) (p .limit) ≡ some listOf
+  unfolding fileWindows
+  is-best = p .found .is-best
 
-    -- the best start list
-    pub record Chosen : Type 0 where
-      pub list : List ℕ
-      pub is-best : bestList ≡ some list
-      pub slots-is : found .slots ≡ slots list
-      pub starts-is : found .starts ≡ byPlace list
-      pub short : Shortest (size (w .jobs .file)) (w .jobs .file .needs) (mostBoards (w .jobs .file)) (w .jobs .file .limit) list
+  short : Shortest (length (f .jobs)) (f .needs) (mostBoards f) (f .limit) listOf
+  short =
+      best-found (length (f .jobs)) (f .needs) (mostBoards f) (f .limit) (p .jobs .keeps .distinct) (λ g k m. rw (← (p .jobs .held .jobs-is)) (needs-in g k m))
+      (p .jobs .keeps .limit-in .0) listOf (sym (best-same (p .jobs)) ∙ is-best)
 
-    pub chosen : (found .slots ≡ 0 → ⊥) → Chosen
-    unfolding answerOf
-    chosen z = go (bestList) refl
-      where
-        go : (x : Option (List ℕ)) → bestList ≡ x → Chosen
-        go none e = absurd (z (ap (λ (y : Found). y .slots) (is ∙ ap answerOf e)))
-        go (some u) e = record {
-          list = u;
-          is-best = e;
-          slots-is = ap (λ (y : Found). y .slots) (is ∙ ap answerOf e);
-          starts-is = ap (λ (y : Found). y .starts) (is ∙ ap answerOf e);
-          short = best-found (size (w .jobs .file)) (w .jobs .file .needs) (mostBoards (w .jobs .file)) (w .jobs .file .limit) (w .jobs .keeps .distinct) (file-needs bs n L o g t (w .jobs)) (w .jobs .keeps .limit-in .0) u e;
-        }
+  kept : Kept (Gives (f .needs)) (at listOf) × Fits n count listOf
+  kept =
+      let w = program-is (length (f .jobs)) (f .needs) (slots listOf) listOf (p .jobs .keeps .distinct)
+      (λ g k m. rw (← (p .jobs .held .jobs-is)) (needs-in g k m)) .0 (short .satisfies) in (
+        w .0,
+        record {
+          len = w .1 .len ∙ sym (p .jobs .held .jobs-is);
+          below = λ i h. omega (arith, w .1 .below i (omega (arith, p .jobs .held .jobs-is)), p .found .slots-are);
+        },
+      )
 
-    module _ (c : Chosen) where
-      kept : Kept (Gives (w .jobs .file .needs)) (at (c .list)) × Fits (size (w .jobs .file)) (slots (c .list)) (c .list)
-      kept = program-is (size (w .jobs .file)) (w .jobs .file .needs) (slots (c .list)) (c .list) (w .jobs .keeps .distinct) (file-needs bs n L o g t (w .jobs)) .0 (c .short .satisfies)
+  -- at most 64 slots
+  pub slots-few : count ≤ 64
+  slots-few = omega (arith, p .found .roof, p .jobs .held .limit-is, p .jobs .keeps .limit-in)
 
-      pub slots-few : found .slots ≤ 64
-      slots-few = omega (arith, c .slots-is, c .short .fits, limit-few bs n L o g t (w .jobs))
+  -- the placing on boards can take it
+  pub able : Placeable n (p .jobs .file .needs) (listOf) words path count
+  unfolding fileWindows
+  able = placeable (fileWindows n (f .needs) (p .limit)) (seatsBy (fileWindows n (f .needs) (p .limit)) (p .found .has-places)) count (mostBoards f) (p .limit)
+      words path (p .found .ready .shows) (p .found .full) (λ s l. ap (λ (x : ℕ). record { bits = x }) (p .found .same s l))
+      (p .jobs .held .few) slots-few (p .found .roof) needs-in (p .found .slots-are) (kept .0) (kept .1)
 
-      start-at : (i : ℕ) → i < size (w .jobs .file) → at (found .starts) (63 - i) ≡ at (c .list) i
-      start-at i h = ap (λ (l : List ℕ). at l (63 - i)) (c .starts-is) ∙ by-place-at (c .list) i (omega (arith, jobs-few bs n L o g t (w .jobs)))
+  -- and so can the starts
+  pub places-in : (s : ℕ) → s < count → PlacesIn words s (setAt path s)
+  places-in s l q m = let w = able .at-place s q l m in (w .0, omega (arith, w .1, p .jobs .held .few))
 
-      -- what the placing asks
-      pub startable : Startable (found .starts) n (found .slots)
-      startable = record {
-        jobs-few = w .jobs .held .few;
-        slots-few = slots-few;
-        in-slots = λ i h. omega (arith, start-at i (omega (arith, w .jobs .held .jobs-is)), kept .1 .below i (omega (arith, w .jobs .held .jobs-is)), c .slots-is);
-      }
+  -- the sets of the path are those of the plan
+  path-sets : take count path ≡ plans.planOf (tablesIn words) (mostBoards f) count .sets
+  path-sets = ext-getD 0 (take count path) sets (omega (arith, length-take count path, p .found .path-len, p .found .full, slots-few))
+      (λ s l. let h : s < count = omega (arith, length-take count path) in getD-take count path s 0 h ∙ p .found .same s h)
+    where
+      sets : List ℕ
+      sets = plans.planOf (tablesIn words) (mostBoards f) count .sets
 
-      -- and what it gives
-      pub placed-is : placed sets (found .starts) n (found .slots) ≡ rulesPlaced (size (w .jobs .file)) (w .jobs .file .needs) (c .list)
-      placed-is = rw (c .slots-is, w .jobs .held .jobs-is) (place-is (size (w .jobs .file)) (w .jobs .file .needs) (c .list) sets (found .starts) (record {
-        few = jobs-few bs n L o g t (w .jobs);
-        needs-in = file-needs bs n L o g t (w .jobs);
-        givers-are = givers-front sets (w .jobs .file .needs) (w .jobs .held .givers-are);
-        len = kept .1 .len;
-        kept = kept .0;
-        slots-few = omega (arith, c .short .fits, limit-few bs n L o g t (w .jobs));
-        starts-are = start-at;
-      }))
+  module _ (starts : List ℕ) (starts-are : starts ≡ plans.written (tablesIn words) 0 (take count path) (replicate 400 0)) where
+    start-at : (i : ℕ) → i < n → at starts i ≡ at listOf i
+    start-at i h =
+        let few = p .jobs .held .few in
+        ap (λ (t : List ℕ). at t i) (starts-are ∙ ap (λ (s : List ℕ). plans.written (tablesIn words) 0 s (replicate 400 0)) path-sets ∙ p .found .starts-are)
+        ∙ tabulate-at (at listOf) 400 0 i 0 (omega arith) ∙ ap (at listOf) (omega arith)
 
-      pub count-few : placed sets (found .starts) n (found .slots) .count ≤ 8
-      unfolding rulesPlaced
-      count-few = rw placed-is (omega (arith, few-boards (w .jobs .file) (w .jobs .keeps) (no-circle bs n L cap o sets least w) (w .narrow) (c .list) (c .short), w .jobs .keeps .boards-in .1))
+    module _ (most : ℕ) (out : List ℕ) (boarded : Boarded n words path count most out) where
+      -- the boards of the rules
+      abbrev b : List ℕ
+      b = boards (length (f .jobs)) (f .needs) listOf
+
+      boards-same : boards n (f .needs) listOf ≡ b
+      boards-same = ap (λ (k : ℕ). boards k (f .needs) listOf) (p .jobs .held .jobs-is)
+
+      pub count-few : most ≤ 8
+      count-few = omega (
+        arith,
+        boarded .count-is (f .needs) listOf able ∙ ap largest boards-same,
+        few-boards f (p .jobs .keeps) no-circle (rw (p .jobs .held .jobs-is, p .jobs .held .limit-is) at (p .narrow)) listOf short,
+        p .jobs .keeps .boards-in .1,
+      )
 
       -- the table that is written is that of the rules
-      table-is : tableWith bs o (found .starts) (placed sets (found .starts) n (found .slots) .boards) n (found .slots) (placed sets (found .starts) n (found .slots) .count) ≡ tableOf (w .jobs .file) (c .list)
-      unfolding tableOf tableWith rulesPlaced rowWith
-      table-is = λ i. record { slots = c .slots-is i; boards = placed-is i .count; rows = rows-are i }
+      table-is : tableWith bs o starts out n count most ≡ tableOf f listOf
+      unfolding tableOf tableWith rowWith
+      table-is = λ i. record { slots = sym (p .found .slots-are) i; boards = (boarded .count-is (f .needs) listOf able ∙ ap largest boards-same) i; rows = rows-are i }
         where
-          b : List ℕ
-          b = boards (size (w .jobs .file)) (w .jobs .file .needs) (c .list)
+          row-is : (i : ℕ) → i < n → rowWith (at starts i) (at out i) (value bs (at o i))
+              ≡ record { start = at listOf i; board = at b i; level = centimetres (nthJob (f .jobs) i .level); name = nthJob (f .jobs) i .name }
+          row-is i h =
+              let e = p .jobs .held .offsets-are i h in
+              let a = boarded .board-is (f .needs) listOf able i ∙ ap (λ (l : List ℕ). at l i) boards-same in
+              λ k. record { start = start-at i h k; board = a k; level = centimetres (e k .level); name = e k .name }
 
-          board-at : (i : ℕ) → i < size (w .jobs .file) → at (placed sets (found .starts) n (found .slots) .boards) (63 - i) ≡ at b i
-          board-at i h = ap (λ (p : Placed). at (p .boards) (63 - i)) placed-is ∙ by-place-at b i (omega (arith, jobs-few bs n L o g t (w .jobs)))
-
-          rows-are : tabulate (λ i. rowWith (at (found .starts) (63 - i)) (at (placed sets (found .starts) n (found .slots) .boards) (63 - i)) (value bs (at o i))) n 0
-              ≡ tabulate (λ i. record { start = at (c .list) i; board = at b i; level = centimetres (nthJob (w .jobs .file .jobs) i .level); name = nthJob (w .jobs .file .jobs) i .name }) (size (w .jobs .file)) 0
+          rows-are : tabulate (λ i. rowWith (at starts i) (at out i) (value bs (at o i))) n 0
+              ≡ tabulate (λ i. record { start = at listOf i; board = at b i; level = centimetres (nthJob (f .jobs) i .level); name = nthJob (f .jobs) i .name }) (length (f .jobs)) 0
           rows-are =
-              ap (λ (k : ℕ). tabulate (λ i. rowWith (at (found .starts) (63 - i)) (at (placed sets (found .starts) n (found .slots) .boards) (63 - i)) (value bs (at o i))) k 0) (w .jobs .held .jobs-is)
-              ∙ tabulate-same _ _ (size (w .jobs .file)) 0 (λ i _ h. row-is i (omega arith))
-            where
-              row-is : (i : ℕ) → i < size (w .jobs .file)
-                  → rowWith (at (found .starts) (63 - i)) (at (placed sets (found .starts) n (found .slots) .boards) (63 - i)) (value bs (at o i))
-                  ≡ record { start = at (c .list) i; board = at b i; level = centimetres (nthJob (w .jobs .file .jobs) i .level); name = nthJob (w .jobs .file .jobs) i .name }
-              row-is i h = let e = w .jobs .held .offsets-are i (omega (arith, w .jobs .held .jobs-is)) in
-                  λ k. record { start = start-at i h k; board = board-at i h k; level = centimetres (e k .level); name = e k .name }
+              tabulate-same _ _ n 0 (λ i _ h. row-is i (omega arith))
+              ∙ ap (λ (k : ℕ). tabulate (λ i. record { start = at listOf i; board = at b i; level = centimetres (nthJob (f .jobs) i .level); name = nthJob (f .jobs) i .name }) k 0) (p .jobs .held .jobs-is)
 
       -- the answer with the table that is written
-      pub table-written : (placing : Placed) → placing ≡ placed sets (found .starts) n (found .slots) → (k : ℕ) (table table′ : List ℕ)
-          → k ≡ length (encode (tableWith bs o (found .starts) (placing .boards) n (found .slots) (placing .count)))
-          → table′ ≡ encode (tableWith bs o (found .starts) (placing .boards) n (found .slots) (placing .count)) ++ drop k table → Answers bs (made.Table k) table table′
+      pub table-written : (k : ℕ) (table table′ : List ℕ) → k ≡ length (encode (tableWith bs o starts out n count most))
+          → table′ ≡ encode (tableWith bs o starts out n count most) ++ drop k table → Answers bs (made.Table k) table table′
       unfolding tabled
-      table-written placing p k table table′ size-is bytes-are =
-          let e : tableWith bs o (found .starts) (placing .boards) n (found .slots) (placing .count) ≡ tableOf (w .jobs .file) (c .list)
-          = ap (λ (x : Placed). tableWith bs o (found .starts) (x .boards) n (found .slots) (x .count)) p ∙ table-is in
-          answers-table bs (tableOf (w .jobs .file) (c .list)) k table table′ (search-13 (some (c .list)) (c .is-best)) (size-is ∙ ap (λ (x : Table). length (encode x)) e) (bytes-are ∙ ap (λ (x : Table). encode x ++ drop k table) e)
+      table-written k table table′ size-is bytes-are =
+          answers-table bs (tableOf f listOf) k table table′ (tabled-is (p .jobs) no-circle (p .narrow) (some listOf) is-best)
+          (size-is ∙ ap (λ (x : Table). length (encode x)) table-is) (bytes-are ∙ ap (λ (x : Table). encode x ++ drop k table) table-is)

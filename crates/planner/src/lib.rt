@@ -1,11 +1,19 @@
 // The planner: questions 1 to 13 and 21 of documents 01 and 02, and the table.
 //
-// Jobs are counted from 0 here. In sets, and in the arrays by place, job i stands at place 63 - i (crate jobset).
+// Jobs are counted from 0 here. The working buffer holds the needs (crate needrows) until the tables of places are made, and then the bitmap of
+// the search.
+use layout::CAP;
+use layout::TABLES;
+use sizes::MAX_JOBS;
+use sizes::MAX_SLOTS;
+use sizes::TABLE_BYTES;
+use sizes::WORK_BYTES;
 ghost use mathlib.Core.Path.{_≡_};
 ghost use Prim.Native.Nat.{_≤_, _<_};
 ghost use lib.ListN.{length};
+ghost use Rattle.rules.specs.Sizes.{maxJobs, workSize, tableSize};
 ghost use Rattle.rules.specs.Answers.{plan};
-ghost use Rattle.planner.specs.Planner.{outcomeOf, Answers, capOf, firstLength, WindowsRead};
+ghost use Rattle.planner.specs.Planner.{outcomeOf, Answers, firstLength, LevelsRead, PlanRead};
 
 // A table of so many bytes, or the number of the question that said no.
 pub enum Planned {
@@ -13,55 +21,39 @@ pub enum Planned {
     Refused(u8),
 }
 
-// Question 13; then the boards, and the table.
-fn plan_windows(
+// The table of the plan that was found: starts, boards, and both written.
+fn write_plan(
     file: &[u8],
-    offsets: &[u16; 64],
-    tables: &[u64; 260],
+    offsets: &[u16; MAX_JOBS],
+    tables: &[u16; TABLES],
+    path: &[u8; MAX_SLOTS],
     jobs: usize,
-    limit: usize,
-    cap: u32,
-    least: usize,
-    work: &mut [u8],
+    slots: usize,
     table: &mut [u8],
 ) -> Planned
-    requires { ⌜ (52488 ≤ length (now work)) × (1222 ≤ length (now table)) × WindowsRead (now file) jobs limit cap (now offsets) (now tables) least ⌝ }
+    requires { ⌜ (tableSize ≤ length (now table)) × PlanRead (now file) jobs (now offsets) (now tables) (now path) slots ⌝ }
     ensures { λ r. ⌜ Answers (now (file .entry)) r (now (table .entry)) (now (table .exit)) ⌝ }
 {
-    let found = search::search(tables, least, limit, work, cap);
-    let slots = found.slots;
-    if slots == 0 {
-        return Planned::Refused(13);
-    }
-    let starts = found.starts;
-    let placed = boards::place(tables, &starts, jobs, slots);
-    let on = placed.boards;
+    let mut starts = [0; MAX_JOBS];
+    lengths::starts_of(tables, path, slots, &mut starts);
+    let mut boards = [0; MAX_JOBS];
+    let count = slotboards::place(tables, path, jobs, slots, &mut boards);
     let size = writer::write_table(
         file,
         offsets,
         &starts,
-        &on,
+        &boards,
         jobs,
         slots as u8,
-        placed.count as u8,
+        count as u8,
         table,
     );
     Planned::Table(size)
 }
 
-// The most jobs that the search gives a slot: no cap where the boards are as many as the file is wide.
-fn cap_of(width: usize, boards: u8) -> u32
-    ensures { λ r. ⌜ r ≡ capOf width boards ⌝ }
-{
-    if width <= boards as usize {
-        return explore::NO_CAP;
-    }
-    boards as u32
-}
-
 // The first makespan that the search tries: what releases and tails leave, or as many slots as so many jobs take at `cap` a slot.
-fn first_length(least: usize, jobs: usize, cap: u32) -> usize
-    requires { ⌜ (0 < cap) × (jobs ≤ 64) ⌝ }
+fn first_length(least: usize, jobs: usize, cap: u8) -> usize
+    requires { ⌜ (0 < cap) × (jobs ≤ maxJobs) ⌝ }
     ensures { λ r. ⌜ r ≡ firstLength least jobs cap ⌝ }
 {
     let most = cap as usize;
@@ -72,42 +64,73 @@ fn first_length(least: usize, jobs: usize, cap: u32) -> usize
     least
 }
 
-// Questions 2 to 12 and 21, with full buffers; then the rest. The tables of the file are parts of one array (crate explore says which).
-fn plan_file(file: &[u8], work: &mut [u8], table: &mut [u8]) -> Planned
-    requires { ⌜ (52488 ≤ length (now work)) × (1222 ≤ length (now table)) ⌝ }
+// Questions 12 and 13; then the table. No slot gets more jobs than there are boards.
+fn plan_windows(
+    file: &[u8],
+    offsets: &[u16; MAX_JOBS],
+    release: &[u16; MAX_JOBS],
+    tail: &[u16; MAX_JOBS],
+    jobs: usize,
+    limit: usize,
+    boards: u8,
+    work: &mut [u8],
+    table: &mut [u8],
+) -> Planned
+    requires { ⌜ (workSize ≤ length (now work)) × (tableSize ≤ length (now table)) × LevelsRead (now file) jobs limit boards (now offsets) (now work) (now release) (now tail) ⌝ }
     ensures { λ r. ⌜ Answers (now (file .entry)) r (now (table .entry)) (now (table .exit)) ⌝ }
 {
-    let mut offsets = [0; 64];
-    let mut tables = [0; 260];
-    let f = jobfile::read_file(file, &mut offsets, &mut tables);
+    let mut places = [0; MAX_JOBS];
+    let mut tables = [0; TABLES];
+    let filled = seats::seat_all(work, jobs, release, tail, limit, &mut places, &mut tables);
+    if filled == 0 {
+        return Planned::Refused(12);
+    }
+    tables[CAP] = boards as u16;
+    let least = first_length(releases::least(release, tail, jobs), jobs, boards);
+    let mut path = [0; MAX_SLOTS];
+    let slots = lengths::search(
+        &mut tables,
+        filled,
+        least,
+        limit,
+        jobs,
+        &places,
+        tail,
+        work,
+        &mut path,
+    );
+    if slots == 0 {
+        return Planned::Refused(13);
+    }
+    write_plan(file, offsets, &tables, &path, jobs, slots, table)
+}
+
+// Questions 2 to 11 and 21, with full buffers; then the rest.
+fn plan_file(file: &[u8], work: &mut [u8], table: &mut [u8]) -> Planned
+    requires { ⌜ (workSize ≤ length (now work)) × (tableSize ≤ length (now table)) ⌝ }
+    ensures { λ r. ⌜ Answers (now (file .entry)) r (now (table .entry)) (now (table .exit)) ⌝ }
+{
+    let mut offsets = [0; MAX_JOBS];
+    let f = jobfile::read_file(file, &mut offsets, work);
     let number = f.number;
     if number != 0 {
         return Planned::Refused(number);
     }
-    let before = windows::levels(&tables[..64], f.jobs);
-    if !before.ok {
+    let mut order = [0; MAX_JOBS];
+    let mut release = [0; MAX_JOBS];
+    if !releases::peel(work, f.jobs, &mut order, &mut release) {
         return Planned::Refused(11);
     }
-    let behind = windows::levels(&tables[64..128], f.jobs);
-    let release = before.level;
-    let tail = behind.level;
-    windows::lower_jobs(&release, f.jobs, &mut tables[128..194]);
-    windows::higher_jobs(&tail, f.jobs, &mut tables[194..260]);
-    let sets = &tables[..];
-    let width = windows::width(&sets[128..194], &sets[194..260], f.limit);
-    if 8 < width {
-        return Planned::Refused(12);
-    }
-    let cap = cap_of(width, jobfile::most_boards(f.sockets));
-    let least = first_length(windows::least(&release, &tail, f.jobs), f.jobs, cap);
+    let mut tail = [0; MAX_JOBS];
+    releases::tails(work, f.jobs, &order, &mut tail);
     plan_windows(
         file,
         &offsets,
-        &tables,
+        &release,
+        &tail,
         f.jobs,
         f.limit,
-        cap,
-        least,
+        jobfile::most_boards(f.sockets),
         work,
         table,
     )
@@ -118,13 +141,13 @@ fn plan_file(file: &[u8], work: &mut [u8], table: &mut [u8]) -> Planned
 pub fn plan(file: &[u8], work: &mut [u8], table: &mut [u8]) -> Planned
     ensures { λ r. ⌜ outcomeOf r (now (work .exit)) (now (table .exit)) ≡ plan (now (file .entry)) (now (work .entry)) (now (table .entry)) ⌝ }
 {
-    if work.len() < 65536 {
+    if work.len() < WORK_BYTES {
         return Planned::Refused(1);
     }
-    if table.len() < 1222 {
+    if table.len() < TABLE_BYTES {
         return Planned::Refused(1);
     }
-    let answer = plan_file(file, &mut work[..65536], table);
-    bitmap::clear(work, 65536);
+    let answer = plan_file(file, &mut work[..WORK_BYTES], table);
+    bitmap::clear(work, WORK_BYTES);
     answer
 }

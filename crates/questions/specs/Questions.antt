@@ -1,17 +1,19 @@
 -- What each function for questions 15 to 18 gives, over starts and boards in number order. Assumes nothing.
 use mathlib.Core.Bool.{Bool, _&&_}
-use mathlib.Core.List.{List}
-use Prim.Native.Nat.{ℕ, _+_, _-_, _≤_}
+use mathlib.Core.List.{List, List·Memᴰ}
+use Prim.Native.Nat.{ℕ, _+_, _*_, _≤_, _<_}
 use lib.ListN.{length}
 use lib.Dec.{T, leb, eqb}
-use Rattle.rules.specs.Basics.{choose, at, imp, all, any, range, largest}
+use Rattle.rules.specs.Sizes.{maxJobs, maxLimit}
+use Rattle.rules.specs.Basics.{choose, at, all, any, range, largest}
 use Rattle.rules.specs.Numbers.{eqℤ, centimetres}
 use Rattle.rules.specs.Fields.{value, whole}
 use Rattle.rules.specs.JobFile.{jobOf}
 use Rattle.rules.specs.Program.{slots}
 use Rattle.rules.specs.Table.{rowOf, sameName}
 use Rattle.jobset.specs.declared.Set.{Set}
-use Rattle.jobset.specs.Sets.{member, setAt}
+use Rattle.jobset.specs.Sets.{members}
+use Rattle.needrows.specs.Rows.{rowBytes, takersBehind, takersOf}
 
 -- ---- 15
 
@@ -36,13 +38,17 @@ sizedIn L most s b t bs = eqb s (slots t) && (leb s L && (all (leb 1) bs && (eqb
 
 -- ---- 17
 
--- rows i and j share start and board
-unfoldable pub sameCell : List ℕ → List ℕ → ℕ → ℕ → Bool
-sameCell t b i j = eqb (at t i) (at t j) && eqb (at b i) (at b j)
+-- each row has one of 64 slots and a board below 64
+abbrev pub InCells : List ℕ → List ℕ → Type 0
+InCells t b = (i : ℕ) → i < length t → (at t i < maxLimit) × (at b i < 64)
+
+-- one of the first i rows has the start s and the board c
+unfoldable pub cellTaken : List ℕ → List ℕ → ℕ → ℕ → ℕ → Bool
+cellTaken t b i s c = any (λ j. eqb s (at t j) && eqb c (at b j)) (range i 0)
 
 -- an earlier row shares start and board with row i
 unfoldable pub shared : List ℕ → List ℕ → ℕ → Bool
-shared t b i = any (sameCell t b i) (range i 0)
+shared t b i = cellTaken t b i (at t i) (at b i)
 
 -- ---- 18
 
@@ -50,12 +56,26 @@ shared t b i = any (sameCell t b i) (range i 0)
 unfoldable pub lateEnough : List ℕ → List ℕ → ℕ → ℕ → Bool
 lateEnough t b g k = choose (eqb (at b k) (at b g)) (leb (at t g + 1) (at t k)) (leb (at t g + 2) (at t k))
 
--- the same where job g is in the set of the givers of k, at its place
-unfoldable pub needKept : Set → List ℕ → List ℕ → ℕ → ℕ → Bool
-needKept givers t b g k = imp (member givers (63 - g)) (lateEnough t b g k)
+-- the takers in a word of a giver's row, numbered from `first`, are among n jobs
+abbrev pub WordIn : ℕ → ℕ → Set → Type 0
+WordIn n first S = (j : ℕ) → List·Memᴰ j (members S) → first + j < n
 
-unfoldable pub giversKept : Set → List ℕ → List ℕ → ℕ → Bool
-giversKept givers t b k = all (λ g. needKept givers t b g k) (range (length t) 0)
+-- so are all takers in the rows of n jobs, and the bytes of the rows are there
+pub record RowsIn (rows : List ℕ) (n : ℕ) : Type 0 where
+  pub few : n ≤ maxJobs
+  pub room : rowBytes * n ≤ length rows
+  pub takers-in : (g k : ℕ) → g < n → List·Memᴰ k (takersOf rows n g) → k < n
 
-unfoldable pub setsKept : List ℕ → List ℕ → List ℕ → Bool
-setsKept givers t b = all (λ k. giversKept (setAt givers (63 - k)) t b k) (range (length t) 0)
+-- the needs of giver g are kept: those in a word, those from word w on, all
+unfoldable pub wordKept : List ℕ → List ℕ → ℕ → ℕ → Set → Bool
+wordKept t b g first S = all (λ j. lateEnough t b g (first + j)) (members S)
+
+unfoldable pub keptBehind : List ℕ → List ℕ → List ℕ → ℕ → ℕ → Bool
+keptBehind rows t b g w = all (lateEnough t b g) (takersBehind rows (length t) g w)
+
+abbrev pub rowKept : List ℕ → List ℕ → List ℕ → ℕ → Bool
+rowKept rows t b g = keptBehind rows t b g 0
+
+-- those of all givers
+unfoldable pub rowsKept : List ℕ → List ℕ → List ℕ → Bool
+rowsKept rows t b = all (rowKept rows t b) (range (length t) 0)

@@ -5,13 +5,19 @@ use fields::value_at;
 use fields::wide;
 use fields::word_at;
 use jobset::Set;
+use needrows::WORD_BITS;
+use needrows::word;
+use needrows::words;
+use sizes::MAX_JOBS;
+use sizes::MAX_SLOTS;
 ghost use mathlib.Core.Path.{_≡_};
 ghost use Prim.Native.Nat.{ℕ, _<_, _≤_};
 ghost use lib.ListN.{length};
 ghost use lib.Dec.{leb};
 ghost use Rattle.rules.specs.Basics.{at, all, largest};
 ghost use Rattle.rules.specs.Table.{sameName, apartb};
-ghost use Rattle.questions.specs.Questions.{labelledBy, Placed, labelledIn, sizedIn, sameCell, shared, lateEnough, needKept, giversKept, setsKept};
+ghost use Rattle.rules.specs.Sizes.{maxJobs};
+ghost use Rattle.questions.specs.Questions.{labelledBy, Placed, labelledIn, sizedIn, InCells, lateEnough, WordIn, wordKept, RowsIn, rowKept, rowsKept};
 
 // ---- 15
 
@@ -44,8 +50,14 @@ fn labelled_row(job: &[u8], row: &[u8]) -> bool
 }
 
 // Question 15: has each job its name and its level in centimetres? `jobs` and `rows` say where the fields begin.
-pub fn labelled(file: &[u8], jobs: &[u16; 64], table: &[u8], rows: &[u16; 64], count: usize) -> bool
-    requires { ⌜ (count ≤ 64) × ((i : ℕ) → i < count → Placed (now file) (at (now jobs) i) (now table) (at (now rows) i)) ⌝ }
+pub fn labelled(
+    file: &[u8],
+    jobs: &[u16; MAX_JOBS],
+    table: &[u8],
+    rows: &[u16; MAX_JOBS],
+    count: usize,
+) -> bool
+    requires { ⌜ (count ≤ maxJobs) × ((i : ℕ) → i < count → Placed (now file) (at (now jobs) i) (now table) (at (now rows) i)) ⌝ }
     ensures { λ r. ⌜ r ≡ labelledIn (now (file .entry)) (now (jobs .entry)) (now (table .entry)) (now (rows .entry)) count ⌝ }
 {
     let mut i = 0;
@@ -117,42 +129,22 @@ pub fn sized(
 
 // ---- 17
 
-// Do rows i and j share start and board?
-fn same_cell(start: &[u8], board: &[u8], i: usize, j: usize) -> bool
-    requires { ⌜ (i < length (now start)) × (j < length (now start)) × (length (now board) ≡ length (now start)) ⌝ }
-    ensures { λ r. ⌜ r ≡ sameCell (now (start .entry)) (now (board .entry)) i j ⌝ }
-{
-    if start[i] != start[j] {
-        return false;
-    }
-    board[i] == board[j]
-}
-
-// Does an earlier row share start and board with row i?
-fn is_shared(start: &[u8], board: &[u8], i: usize) -> bool
-    requires { ⌜ (i < length (now start)) × (length (now board) ≡ length (now start)) ⌝ }
-    ensures { λ r. ⌜ r ≡ shared (now (start .entry)) (now (board .entry)) i ⌝ }
-{
-    let mut j = 0;
-    while j < i {
-        if same_cell(start, board, i, j) {
-            return true;
-        }
-        j += 1;
-    }
-    false
-}
-
-// Question 17: do no two jobs share start and board?
+// Question 17: do no two jobs share start and board? Of each slot `taken` has the boards so far.
 pub fn apart(start: &[u8], board: &[u8]) -> bool
-    requires { ⌜ length (now board) ≡ length (now start) ⌝ }
+    requires { ⌜ (length (now board) ≡ length (now start)) × InCells (now start) (now board) ⌝ }
     ensures { λ r. ⌜ r ≡ apartb (length (now (start .entry))) (now (start .entry)) (now (board .entry)) ⌝ }
 {
+    let mut taken = [0; MAX_SLOTS];
     let mut i = 0;
     while i < start.len() {
-        if is_shared(start, board, i) {
+        let slot = wide(start[i]);
+        let number = wide(board[i]);
+        let boards = Set { bits: taken[slot] };
+        if boards.has(number) {
             return false;
         }
+        let more = boards.with(number);
+        taken[slot] = more.bits;
         i += 1;
     }
     true
@@ -173,46 +165,49 @@ fn late_enough(start: &[u8], board: &[u8], giver: usize, taker: usize) -> bool
     before + 2 <= after
 }
 
-// Is the giver in the set, at its place, only if the taker starts late enough?
-fn need_kept(givers: Set, start: &[u8], board: &[u8], giver: usize, taker: usize) -> bool
-    requires { ⌜ (giver < length (now start)) × (taker < length (now start)) × (length (now board) ≡ length (now start)) × (length (now start) ≤ 64) ⌝ }
-    ensures { λ r. ⌜ r ≡ needKept givers (now (start .entry)) (now (board .entry)) giver taker ⌝ }
+// Are the needs of the giver for the takers in a word kept, which are numbered from `first`?
+fn word_kept(start: &[u8], board: &[u8], giver: usize, first: usize, takers: Set) -> bool
+    requires { ⌜ (giver < length (now start)) × (length (now board) ≡ length (now start)) × WordIn (length (now start)) first takers ⌝ }
+    ensures { λ r. ⌜ r ≡ wordKept (now (start .entry)) (now (board .entry)) giver first takers ⌝ }
 {
-    if givers.has(63 - giver) {
-        return late_enough(start, board, giver, taker);
+    let mut rest = takers;
+    while !rest.is_empty() {
+        let taker = first + rest.lowest() as usize;
+        if !late_enough(start, board, giver, taker) {
+            return false;
+        }
+        rest = rest.rest();
     }
     true
 }
 
-// Are the needs of one taker kept, whose givers are the set?
-fn givers_kept(givers: Set, start: &[u8], board: &[u8], taker: usize) -> bool
-    requires { ⌜ (taker < length (now start)) × (length (now board) ≡ length (now start)) × (length (now start) ≤ 64) ⌝ }
-    ensures { λ r. ⌜ r ≡ giversKept givers (now (start .entry)) (now (board .entry)) taker ⌝ }
+// Are the needs of one giver kept, by its row?
+fn row_kept(rows: &[u8], start: &[u8], board: &[u8], giver: usize) -> bool
+    requires { ⌜ (giver < length (now start)) × (length (now board) ≡ length (now start)) × RowsIn (now rows) (length (now start)) ⌝ }
+    ensures { λ r. ⌜ r ≡ rowKept (now (rows .entry)) (now (start .entry)) (now (board .entry)) giver ⌝ }
+{
+    let mut w = 0;
+    while w < words(start.len()) {
+        let takers = word(rows, giver, w);
+        if !word_kept(start, board, giver, WORD_BITS * w, takers) {
+            return false;
+        }
+        w += 1;
+    }
+    true
+}
+
+// Question 18: are the needs kept, by the rows of takers?
+pub fn needs_kept(rows: &[u8], start: &[u8], board: &[u8]) -> bool
+    requires { ⌜ (length (now board) ≡ length (now start)) × RowsIn (now rows) (length (now start)) ⌝ }
+    ensures { λ r. ⌜ r ≡ rowsKept (now (rows .entry)) (now (start .entry)) (now (board .entry)) ⌝ }
 {
     let mut giver = 0;
     while giver < start.len() {
-        if !need_kept(givers, start, board, giver, taker) {
+        if !row_kept(rows, start, board, giver) {
             return false;
         }
         giver += 1;
-    }
-    true
-}
-
-// Question 18: are the needs kept, by the sets of givers of each job?
-pub fn needs_kept(givers: &[u64], start: &[u8], board: &[u8]) -> bool
-    requires { ⌜ (64 ≤ length (now givers)) × (length (now board) ≡ length (now start)) × (length (now start) ≤ 64) ⌝ }
-    ensures { λ r. ⌜ r ≡ setsKept (now (givers .entry)) (now (start .entry)) (now (board .entry)) ⌝ }
-{
-    let mut taker = 0;
-    while taker < start.len() {
-        let set = Set {
-            bits: givers[63 - taker],
-        };
-        if !givers_kept(set, start, board, taker) {
-            return false;
-        }
-        taker += 1;
     }
     true
 }

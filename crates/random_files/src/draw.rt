@@ -1,6 +1,7 @@
 // Random numbers, sizes, needs and job files of at most five jobs, and of extra jobs without needs behind them.
 //
 // Jobs count from 0. Needs are a table of 25: the need from a giver to a taker stands at five times the giver plus the taker, 1 where it is there.
+use sizes::TABLE_BYTES;
 ghost use Prim.Native.Nat.{_≤_};
 
 // What a job file says besides its needs. `sockets` is the value of tag 9, 0 where there is none.
@@ -72,13 +73,31 @@ pub(crate) fn draw_needs(seed: u64, jobs: usize, needs: &mut [u8; 25]) -> u64 {
     last
 }
 
-// The need at a place of the table, where it is there, behind so many bytes; at place 0, which no need has, the field of tag 9. Gives the length with it.
-fn put_if(file: &mut [u8; 1222], sockets: u8, needs: &[u8; 25], place: usize, at: usize) -> usize {
-    if place == 0 && at <= 1218 && sockets != 0 {
+// A need, behind so many bytes: at every second step by tag 6. Gives the length with it.
+fn put_need(file: &mut [u8; TABLE_BYTES], step: usize, at: usize, giver: u8, taker: u8) -> usize
+    requires { ⌜ at ≤ 7599 ⌝ }
+{
+    if step % 2 == 1 {
+        return drafts::put_wide_need(file, at, giver as u16, taker as u16);
+    }
+    drafts::put_need(file, at, giver, taker)
+}
+
+// At a step of writing the needs, the one at a place of the table, where it is there, behind so many bytes; at place 0, which no need has, the field of
+// tag 9. Gives the length with it.
+fn put_if(
+    file: &mut [u8; TABLE_BYTES],
+    sockets: u8,
+    needs: &[u8; 25],
+    step: usize,
+    place: usize,
+    at: usize,
+) -> usize {
+    if place == 0 && at <= TABLE_BYTES - 4 && sockets != 0 {
         return drafts::put_sockets(file, at, sockets);
     }
-    if place < 25 && at <= 1217 && needs[place] == 1 {
-        return drafts::put_need(file, at, 1 + (place / 5) as u8, 1 + (place % 5) as u8);
+    if place < 25 && at <= TABLE_BYTES - 7 && needs[place] == 1 {
+        return put_need(file, step, at, 1 + (place / 5) as u8, 1 + (place % 5) as u8);
     }
     at
 }
@@ -96,9 +115,9 @@ fn steps_from(first: usize) -> usize
 }
 
 // The job file of these sizes with so many extra jobs, and with these needs in the order of the table from a place on and then around; in half of the files
-// those at 15 places come twice. Gives its length.
+// those at 15 places come twice, by both tags. Gives its length.
 pub(crate) fn put_file(
-    file: &mut [u8; 1222],
+    file: &mut [u8; TABLE_BYTES],
     sizes: Sizes,
     extras: u8,
     needs: &[u8; 25],
@@ -106,12 +125,12 @@ pub(crate) fn put_file(
 ) -> usize
     requires { ⌜ (sizes .jobs ≤ 5) × (extras ≤ 9) × (first ≤ 25) ⌝ }
 {
-    let mut at = drafts::put_jobs(file, sizes.limit, sizes.jobs + extras);
+    let mut at = drafts::put_jobs(file, sizes.limit, (sizes.jobs + extras) as usize);
     let steps = steps_from(first);
     let mut k = 0;
     while k < steps {
         let sockets = sockets_at(sizes.sockets, k);
-        at = put_if(file, sockets, needs, (first + k) % 25, at);
+        at = put_if(file, sockets, needs, k, (first + k) % 25, at);
         k += 1;
     }
     at

@@ -1,5 +1,5 @@
-// Random small job files, half of them with tag 9, and three in ten with some needs given twice: the planner's answer to each is
-// compared with a separate search through all start lists, and its table is handed to the check.
+// Random small job files, half of them with tag 9, and three in ten with some needs given twice; about half of the needs are given by
+// tag 6. The planner's answer to each is compared with a separate search through all start lists, and its table is handed to the check.
 //
 // A file of at most five jobs is never too wide. So each file without a circle, whose width is reckoned here by formulas (1) and (2), is
 // planned twice more: with as many jobs without needs behind its own as make the width eight, when it must not be refused by 12, and

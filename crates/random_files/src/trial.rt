@@ -16,6 +16,7 @@ use crate::lists::slots;
 use crate::placing::place;
 use crate::width::width;
 use libc::STDOUT_FILENO;
+use sizes::TABLE_BYTES;
 ghost use Prim.Native.Nat.{_≤_};
 
 // How many files.
@@ -28,12 +29,12 @@ const DIFFERS: u32 = 0;
 const UNCHECKED: u32 = 100;
 
 // A byte of a table, 0 behind it.
-fn byte(table: &[u8; 1222], at: usize) -> u8 {
-    if at < 1222 { table[at] } else { 0 }
+fn byte(table: &[u8; TABLE_BYTES], at: usize) -> u8 {
+    if at < TABLE_BYTES { table[at] } else { 0 }
 }
 
 // Has the row of a job this start and board?
-fn same_row(table: &[u8; 1222], job: usize, start: u8, board: u8) -> bool {
+fn same_row(table: &[u8; TABLE_BYTES], job: usize, start: u8, board: u8) -> bool {
     if job < 5 {
         return byte(table, 9 + 8 * job) == start && byte(table, 10 + 8 * job) == board;
     }
@@ -41,7 +42,7 @@ fn same_row(table: &[u8; 1222], job: usize, start: u8, board: u8) -> bool {
 }
 
 // Have so many rows of a table these starts and boards?
-fn same_rows(table: &[u8; 1222], starts: &[u8; 5], boards: &[u8; 5], jobs: usize) -> bool {
+fn same_rows(table: &[u8; TABLE_BYTES], starts: &[u8; 5], boards: &[u8; 5], jobs: usize) -> bool {
     let mut job = 0;
     while job < 5 && job < jobs {
         if !same_row(table, job, of(starts, job), of(boards, job)) {
@@ -62,7 +63,7 @@ fn noise(file: &[u8]) -> u8 {
 }
 
 // Has a table these starts, the boards that they lead to, and the head that goes with them?
-fn same_table(table: &[u8; 1222], needs: &[u8; 25], starts: &[u8; 5], jobs: usize) -> bool {
+fn same_table(table: &[u8; TABLE_BYTES], needs: &[u8; 25], starts: &[u8; 5], jobs: usize) -> bool {
     let mut boards = [0; 5];
     place(needs, starts, jobs, &mut boards);
     if byte(table, 4) != slots(starts) || byte(table, 5) != largest(&boards) {
@@ -89,26 +90,26 @@ fn written(answer: u32) -> usize {
 }
 
 // The planner's answer. The working buffer has eight bytes more than are used; DIFFERS where a buffer is not as the answer leaves it.
-fn plan(file: &[u8], table: &mut [u8; 1222]) -> u32 {
+fn plan(file: &[u8], table: &mut [u8; TABLE_BYTES]) -> u32 {
     let before = noise(file);
     let mut work = [before; 65544];
     let answer = gate::gate_plan(file, &mut work, table);
     let zeroed = filled(&work, 0, 65536, 0) && filled(&work, 65536, 65544, before);
-    if zeroed && filled(table, written(answer), 1222, before) {
+    if zeroed && filled(table, written(answer), TABLE_BYTES, before) {
         return answer;
     }
     DIFFERS
 }
 
 // Does the check pass a table of so many bytes?
-fn passes(file: &[u8], table: &[u8; 1222], size: usize) -> bool {
+fn passes(file: &[u8], table: &[u8; TABLE_BYTES], size: usize) -> bool {
     gate::gate_check(file, drafts::front(table, size)) == 0
 }
 
 // What is said of a table of so many bytes, compared with the list of a number.
 fn say_table(
     file: &[u8],
-    table: &[u8; 1222],
+    table: &[u8; TABLE_BYTES],
     size: usize,
     needs: &[u8; 25],
     jobs: usize,
@@ -126,7 +127,7 @@ fn say_table(
 
 // What is said of a file for which the search gives this number.
 fn say(file: &[u8], needs: &[u8; 25], jobs: usize, number: u32) -> u32 {
-    let mut table = [noise(file); 1222];
+    let mut table = [noise(file); TABLE_BYTES];
     let answer = plan(file, &mut table);
     if answer != DIFFERS && number < CIRCLE {
         return say_table(file, &table, answer as usize, needs, jobs, number);
@@ -136,14 +137,14 @@ fn say(file: &[u8], needs: &[u8; 25], jobs: usize, number: u32) -> u32 {
 
 // Has the file a table that passes, or is it refused by 13?
 fn narrow(file: &[u8]) -> bool {
-    let mut table = [noise(file); 1222];
+    let mut table = [noise(file); TABLE_BYTES];
     let answer = plan(file, &mut table);
     answer == NONE || answer < CIRCLE && passes(file, &table, answer as usize)
 }
 
 // Is the file refused by 12?
 fn wide(file: &[u8]) -> bool {
-    let mut table = [noise(file); 1222];
+    let mut table = [noise(file); TABLE_BYTES];
     plan(file, &mut table) == WIDE
 }
 
@@ -158,8 +159,8 @@ fn room(width: u8) -> u8
 fn say_wide(needs: &[u8; 25], sizes: Sizes, extras: u8, first: usize) -> u32
     requires { ⌜ (sizes .jobs ≤ 5) × (extras ≤ 8) × (first ≤ 25) ⌝ }
 {
-    let mut eight = [0; 1222];
-    let mut nine = [0; 1222];
+    let mut eight = [0; TABLE_BYTES];
+    let mut nine = [0; TABLE_BYTES];
     let size = put_file(&mut eight, sizes, extras, needs, first);
     let more = put_file(&mut nine, sizes, extras + 1, needs, first);
     if narrow(drafts::front(&eight, size)) && wide(drafts::front(&nine, more)) {
@@ -222,7 +223,7 @@ fn try_file(seed: u64, counts: &mut [u64; 8]) -> u64 {
         sockets: sockets_of(last / 65536),
     };
     let first = (number / 64 % 25) as usize;
-    let mut file = [0; 1222];
+    let mut file = [0; TABLE_BYTES];
     let size = put_file(&mut file, sizes, 0, &needs, first);
     let right = best(&needs, sizes);
     count(

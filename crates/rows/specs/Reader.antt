@@ -16,8 +16,8 @@ use Rattle.rows.specs.RowByRow.{ReadTo, end-rows}
 use Rattle.rows.specs.declared.Rows as code
 
 -- the reader refuses
-pub refused-read : (bs : List ℕ) (r : code.Rows) → r .ok ≡ false → ((few : ℕ → Bool) → Few few → decode few bs ≡ refused 14) → Decodes bs r
-refused-read bs r e h = record { held = λ t. absurd (true≢false (sym t ∙ e)); not-read = λ _. h }
+pub refused-read : (bs : List ℕ) (r : code.Rows) (o s b : List ℕ) → r .ok ≡ false → ((few : ℕ → Bool) → Few few → decode few bs ≡ refused 14) → Decodes bs r o s b
+refused-read bs r o s b e h = record { held = λ t. absurd (true≢false (sym t ∙ e)); not-read = λ _. h }
 
 pub no-head : (bs : List ℕ) → headOk bs ≡ false → (few : ℕ → Bool) → Few few → decode few bs ≡ refused 14
 unfolding decode ask
@@ -29,7 +29,7 @@ module _ (bs : List ℕ) (head : T (headOk bs)) (o s b : List ℕ) (n a : ℕ) (
   unfolding decode decodedTable after
   decoded few = ask-yes (headOk bs) 14 _ head ∙ rw (end-rows bs o s b n a r end, length-tabulate (rowNumber bs) n 0) refl
 
-  pub table-read : (sl bo : ℕ) → sl ≡ at bs 4 → bo ≡ at bs 5 → Decodes bs (record { ok = true; slots = sl; boards = bo; count = n; offset = o; start = s; board = b })
+  pub table-read : (sl bo : ℕ) → sl ≡ at bs 4 → bo ≡ at bs 5 → Decodes bs (record { ok = true; slots = sl; boards = bo; count = n }) o s b
   unfolding decodedTable
   table-read sl bo p q = record {
     held = λ _. record {

@@ -6,7 +6,7 @@ use Prim.Native.Nat.{ℕ, suc, _+_, _-_, _*_, _≤_, _<_}
 use native.Mathlib.Omega.{arith}
 use native.Mathlib.Numerals.{add-one}
 use native.Mathlib.Decide.{ℕ-discrete}
-use lib.ListN.{length, take, drop, set, length-set, length-append, replicate, length-replicate}
+use lib.ListN.{length, take, drop, set, length-set, length-append}
 use lib.Seq.{getD-take, getD-drop, getD-set-same, getD-set-other, take-suc-set}
 use lib.Dec.{T, eqb}
 use Rattle.rules.specs.Sizes.{maxJobs}
@@ -50,7 +50,7 @@ module _ (bs : List ℕ) (a : ℕ) where
   unfolding Says
   row-refused q = subst Says q says
 
--- no table of at most 64 rows is decoded where all rows, if there are any, are more
+-- no table of at most 400 rows is decoded where all rows, if there are any, are more
 not-decoded : (bs : List ℕ) → ((rows : List Row) → allRows bs ≡ got rows → maxJobs < length rows) → (few : ℕ → Bool) → Few few → decode few bs ≡ refused 14
 unfolding decode Refusal
 not-decoded bs many few h = go (decode few bs) refl (decode-number (λ q. q ≡ 14) refl few bs)
@@ -73,7 +73,7 @@ pub record ReadTo (bs : List ℕ) (o s b : List ℕ) (n a : ℕ) : Type 0 where
   pub inside : a ≤ length bs
   pub near : a ≤ 6 + 19 * n
   pub few : n ≤ maxJobs
-  pub sizes : (length o ≡ 64) × (length s ≡ 64) × (length b ≡ 64)
+  pub sizes : (length o ≡ maxJobs) × (length s ≡ maxJobs) × (length b ≡ maxJobs)
   pub room : ℕ
   pub enough : length bs - a ≤ room
   pub to-come : overFields (readRow bs) room bs a (tabulate (rowNumber bs) n 0) ≡ allRows bs
@@ -82,14 +82,14 @@ pub record ReadTo (bs : List ℕ) (o s b : List ℕ) (n a : ℕ) : Type 0 where
   pub starts-are : take n s ≡ tabulate (λ i. rowNumber bs i .start) n 0
   pub boards-are : take n b ≡ tabulate (λ i. rowNumber bs i .board) n 0
 
-pub start-read : (bs : List ℕ) → 6 ≤ length bs → ReadTo bs (replicate 64 0) (replicate 64 0) (replicate 64 0) 0 6
+pub start-read : (bs o s b : List ℕ) → (length o ≡ maxJobs) × (length s ≡ maxJobs) × (length b ≡ maxJobs) → 6 ≤ length bs → ReadTo bs o s b 0 6
 unfolding rowStart tabulate
-start-read bs h = record {
+start-read bs o s b sizes h = record {
   here = refl;
   inside = h;
   near = omega arith;
   few = omega arith;
-  sizes = (length-replicate {A = ℕ} 64 0, length-replicate {A = ℕ} 64 0, length-replicate {A = ℕ} 64 0);
+  sizes = sizes;
   room = length bs;
   enough = omega arith;
   to-come = refl;
@@ -115,7 +115,7 @@ module _ (bs : List ℕ) (o s b : List ℕ) (n a : ℕ) (r : ReadTo bs o s b n a
         bad : allRows bs ≡ refused 14
         bad = split .2 ∙ rw (T-false (isRow bs a) (row-refused bs a no-row)) refl
 
-    pub one-too-many : n ≡ 64 → (few : ℕ → Bool) → Few few → decode few bs ≡ refused 14
+    pub one-too-many : n ≡ maxJobs → (few : ℕ → Bool) → Few few → decode few bs ≡ refused 14
     unfolding readRow
     one-too-many full = not-decoded bs (λ rows e. more rows (after-got (readRow bs before a) _ rows (sym (split .2) ∙ e)))
       where
@@ -133,7 +133,7 @@ module _ (bs : List ℕ) (o s b : List ℕ) (n a : ℕ) (r : ReadTo bs o s b n a
             overFields-keeps (readRow bs) (λ u. maxJobs < length u) (λ u v c l e. longer u v c (omega arith) e) (split .0) bs (fieldEnd bs a) (w .0) rows
             (longer before (w .0) a (omega (arith, length-tabulate (rowNumber bs) n 0)) (w .1)) (w .2)
 
-    module _ (e : ℕ) (found : rowAnswer bs a ≡ answer.Row e) (not-full : n ≡ 64 → ⊥) where
+    module _ (e : ℕ) (found : rowAnswer bs a ≡ answer.Row e) (not-full : n ≡ maxJobs → ⊥) where
       is-row : T (isRow bs a)
       is-row = row-said bs a e found .0
 
@@ -144,7 +144,7 @@ module _ (bs : List ℕ) (o s b : List ℕ) (n a : ℕ) (r : ReadTo bs o s b n a
       ends = omega (arith, whole-is bs a .0 (fits .is-whole), after-head bs a, length-value bs a (fits .is-whole))
 
       -- there is room for it, its offset is small, and its fixed bytes are in the table
-      pub row-in : (n < 64) × (a < 65536) × (a + 4 < length bs) × (a < e)
+      pub row-in : (n < maxJobs) × (a < 65536) × (a + 4 < length bs) × (a < e)
       row-in = omega (arith, ends, fits .sizes, r .few, r .near, row-said bs a e found .1)
 
       start-byte : at bs (a + 3) ≡ rowNumber bs n .start

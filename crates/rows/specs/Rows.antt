@@ -23,18 +23,18 @@ abbrev pub Few : (ℕ → Bool) → Type 0
 Few few = (n : ℕ) → T (few n) → n ≤ maxJobs
 
 -- the reader's numbers and arrays are those of the table of so many rows
-pub record RowsRead (bs : List ℕ) (r : code.Rows) : Type 0 where
+pub record RowsRead (bs : List ℕ) (r : code.Rows) (offset start board : List ℕ) : Type 0 where
   pub decoded : (few : ℕ → Bool) → decode few bs ≡ ask (few (r .count)) 14 (got (decodedTable bs (r .count)))
   pub slots-is : r .slots ≡ at bs 4
   pub boards-is : r .boards ≡ at bs 5
   pub count-in : r .count ≤ maxJobs
-  pub sizes : (length (r .offset) ≡ 64) × (length (r .start) ≡ 64) × (length (r .board) ≡ 64)
+  pub sizes : (length offset ≡ maxJobs) × (length start ≡ maxJobs) × (length board ≡ maxJobs)
   pub rows-are : (i : ℕ) → i < r .count → T (isRow bs (rowStart bs i))
-  pub offsets-are : (i : ℕ) → i < r .count → at (r .offset) i ≡ rowStart bs i
-  pub starts-are : take (r .count) (r .start) ≡ starts (decodedTable bs (r .count))
-  pub boards-are : take (r .count) (r .board) ≡ boardsOf (decodedTable bs (r .count))
+  pub offsets-are : (i : ℕ) → i < r .count → at offset i ≡ rowStart bs i
+  pub starts-are : take (r .count) start ≡ starts (decodedTable bs (r .count))
+  pub boards-are : take (r .count) board ≡ boardsOf (decodedTable bs (r .count))
 
--- the reader says ok of a table of at most 64 rows alone
-pub record Decodes (bs : List ℕ) (r : code.Rows) : Type 0 where
-  pub held : r .ok ≡ true → RowsRead bs r
+-- the reader says ok of a table of at most 400 rows alone
+pub record Decodes (bs : List ℕ) (r : code.Rows) (offset start board : List ℕ) : Type 0 where
+  pub held : r .ok ≡ true → RowsRead bs r offset start board
   pub not-read : r .ok ≡ false → (few : ℕ → Bool) → Few few → decode few bs ≡ refused 14

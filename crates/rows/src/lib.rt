@@ -3,10 +3,12 @@ use fields::is_whole;
 use fields::name_ok;
 use fields::value_at;
 use fields::wide;
+use sizes::MAX_JOBS;
 ghost use mathlib.Core.Path.{_≡_};
 ghost use mathlib.Core.Bool.{false};
 ghost use Prim.Native.Nat.{_<_};
 ghost use lib.ListN.{length};
+ghost use Rattle.rules.specs.Sizes.{maxJobs};
 ghost use Rattle.rules.specs.Table.{headOk};
 ghost use Rattle.rows.specs.Rows.{rowAnswer, Decodes};
 
@@ -16,15 +18,12 @@ pub enum RowAnswer {
     Refused,
 }
 
-// What a table says, where ok: its slots and boards, how many rows it has, and of each row the offset, the start and the board.
+// What a table says, where ok: its slots and boards, and how many rows it has.
 pub struct Rows {
     pub ok: bool,
     pub slots: usize,
     pub boards: usize,
     pub count: usize,
-    pub offset: [u16; 64],
-    pub start: [u8; 64],
-    pub board: [u8; 64],
 }
 
 // Is the head the tag 16 field of length 3 and edition 1?
@@ -80,26 +79,26 @@ fn refused() -> Rows
         slots: 0,
         boards: 0,
         count: 0,
-        offset: [0; 64],
-        start: [0; 64],
-        board: [0; 64],
     }
 }
 
-// The table of at most 64 rows: question 14, but for how many rows there must be.
-pub fn read_rows(table: &[u8]) -> Rows
-    ensures { λ r. ⌜ Decodes (now (table .entry)) r ⌝ }
+// The table of at most MAX_JOBS rows: question 14, but for how many rows there must be. The arrays get the offset, the start and the board of each row.
+pub fn read_rows(
+    table: &[u8],
+    offset: &mut [u16; MAX_JOBS],
+    start: &mut [u8; MAX_JOBS],
+    board: &mut [u8; MAX_JOBS],
+) -> Rows
+    requires { ⌜ (length (now offset) ≡ maxJobs) × (length (now start) ≡ maxJobs) × (length (now board) ≡ maxJobs) ⌝ }
+    ensures { λ r. ⌜ Decodes (now (table .entry)) r (now (offset .exit)) (now (start .exit)) (now (board .exit)) ⌝ }
 {
     if !head_ok(table) {
         return refused();
     }
-    let mut offset = [0; 64];
-    let mut start = [0; 64];
-    let mut board = [0; 64];
     let mut count = 0;
     let mut at = 6;
     while at < table.len() {
-        if count == 64 {
+        if count == MAX_JOBS {
             return refused();
         }
         let RowAnswer::Row { end } = row_at(table, at) else {
@@ -116,8 +115,5 @@ pub fn read_rows(table: &[u8]) -> Rows
         slots: wide(table[4]),
         boards: wide(table[5]),
         count,
-        offset,
-        start,
-        board,
     }
 }

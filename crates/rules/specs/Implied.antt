@@ -8,7 +8,7 @@ use Rattle.rules.specs.Sizes.{pairsSize}
 use Rattle.rules.specs.Basics.{choose, at, any, filter, range, tabulate}
 use Rattle.rules.specs.Fields.{Answer, refused, got, ask, after, value, fieldsBut}
 use Rattle.rules.specs.Needs.{Need, Gives, givesb, Chain, marked, circleFree}
-use Rattle.rules.specs.JobFile.{readFile}
+use Rattle.rules.specs.JobFile.{isNeed, needOf, readFile}
 
 -- ---- which needs follow
 
@@ -95,7 +95,7 @@ struck ds needs = filter (λ d. not (givesb ds (d .0) (d .1))) needs
 
 -- the field at offset a is one of the needs ds
 unfoldable pub needAt : List Need → List ℕ → ℕ → Bool
-needAt ds bs a = let v = value bs a in eqb (at bs a) 4 && givesb ds (at v 0 - 1) (at v 1 - 1)
+needAt ds bs a = let d = needOf (at bs a) (value bs a) in isNeed (at bs a) && givesb ds (d .0) (d .1)
 
 -- the bytes of a file without the fields of the needs ds
 unfoldable pub strike : List Need → List ℕ → List ℕ

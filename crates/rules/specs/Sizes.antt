@@ -1,9 +1,9 @@
--- The sizes that document 01 sets, each in one place. Assumes nothing.
+-- The sizes that documents 01 and 02 set, each in one place. Assumes nothing.
 use Prim.Native.Nat.{ℕ}
 
--- "at most the 64th" (question 7)
+-- "Up to 400 jobs are allowed" (question 7; document 02, request 8)
 abbrev pub maxJobs : ℕ
-maxJobs = 64
+maxJobs = 400
 
 -- "1 to 64: most slots allowed" (the limit field)
 abbrev pub maxLimit : ℕ
@@ -17,18 +17,18 @@ maxBoards = 8
 abbrev pub maxWidth : ℕ
 maxWidth = 8
 
--- "A job file is at most 16,384 bytes" (question 2)
+-- "files up to 49,152 bytes" (question 2; document 02, request 8)
 abbrev pub maxFile : ℕ
-maxFile = 16384
+maxFile = 49152
 
 -- the working buffer (question 1)
 abbrev pub workSize : ℕ
 workSize = 65536
 
--- "The longest table is 1,222 bytes" (question 1)
+-- "Question 1 asks for 7,606 table bytes" (document 02, request 8)
 abbrev pub tableSize : ℕ
-tableSize = 1222
+tableSize = 7606
 
 -- two entries for each need that a file has room for: a need takes five bytes (document 02, request 5; law `list-fits`)
 abbrev pub pairsSize : ℕ
-pairsSize = 6552
+pairsSize = 19660

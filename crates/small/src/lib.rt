@@ -7,6 +7,7 @@ use needsets::numbers::is_gate;
 use needsets::numbers::set_count;
 use needsets::starts::fewest;
 use planner::Planned;
+use sizes::TABLE_BYTES;
 ghost use mathlib.Core.Path.{_≡_};
 ghost use mathlib.Core.List.{[], _∷_};
 ghost use Prim.Native.Nat.{_+_, _≤_, _<_};
@@ -24,7 +25,7 @@ fn planned(jobs: usize, number: usize) -> u8
     // Header and limit have 8 bytes, each of 4 jobs 6, each of 16 needs 5.
     let mut file = [0; 112];
     let mut work = io::large_buffer();
-    let mut table = [0; 1222];
+    let mut table = [0; TABLE_BYTES];
     let size = put_file(jobs, number, &mut file);
     let p = planner::plan(&file[..size], &mut work, &mut table);
     // Byte 4 of a table is its slots.

@@ -1,97 +1,160 @@
 -- The ways out of the lookup, by what it has tested. Assumes nothing.
 use mathlib.Core.Path.{_≡_, refl, sym, ap, subst, _∙_}
-use mathlib.Core.Bool.{true, false, _&&_}
+use mathlib.Core.Bool.{false, _&&_}
 use mathlib.Core.List.{List}
 use Prim.Native.Nat.{ℕ, zero, suc, _+_, _-_, _≤_, _<_}
 use native.Mathlib.Omega.{arith}
-use lib.ListN.{length, take}
+use lib.ListN.{length}
 use lib.Dec.{T, leb}
-use Rattle.rules.specs.Sizes.{maxBoards, maxJobs, maxLimit}
+use Rattle.rules.specs.Sizes.{maxJobs, maxLimit, tableSize}
 use Rattle.rules.specs.Basics.{choose, at}
-use Rattle.rules.specs.Fields.{Answer, refused, got, ask, after, fieldEnd, value}
-use Rattle.rules.specs.Table.{starts, boardsOf, sized, apartb, rowStart}
+use Rattle.rules.specs.Fields.{Answer, refused, got, after, fieldEnd, value, whole}
+use Rattle.rules.specs.Table.{Table, rowStart}
 use Rattle.rules.specs.Answers.{jobAt, lookupTable, lookup, nameSpan}
 use Rattle.laws.specs.Tests.{tests}
 use Rattle.laws.specs.Fields.{ask-yes, ask-no, whole-is, length-value, after-head}
-use Rattle.laws.specs.Decoded.{isRow, decodedTable}
+use Rattle.laws.specs.Decoded.{decodedTable}
 use Rattle.laws.specs.Lookup.{job-row}
-use Rattle.rows.specs.declared.Rows as code
 use Rattle.table.specs.declared.places.Found.{Found}
 use Rattle.table.specs.declared.places.Found.the-variants as found
 use Rattle.table.specs.declared.places.Place.{Place}
 use Rattle.table.specs.declared.places.Place.the-variants as place
-use Rattle.rows.specs.Rows.{RowsRead, Decodes}
-use Rattle.rows.specs.RowWays.{row-is}
-use Rattle.table.specs.Cells.{rows-length, cells-yes, cells-no}
+use Rattle.rows.specs.RowWays.{IsRow, row-is}
+use Rattle.table.specs.Cells.{rows-length, Lines, LinesAsked, LinesRead, startsIn, boardsIn, cellsIn, askCells, cells-yes, cells-no}
 use Rattle.table.specs.Lookup.{job-at}
 use Rattle.table.specs.Names.{job-few, name-lies}
-use Rattle.table.specs.Entries.{cellNumber, jobIn, foundOf, placeOf, jobOf}
+use Rattle.table.specs.Entries.{jobIn, foundOf, placeOf, jobOf}
 
-module _ (bs : List ℕ) (s b : ℕ) where
-  refused-by : (q : ℕ) → lookupTable bs ≡ refused q → place.Refused q ≡ placeOf bs (lookup bs s b)
-  unfolding lookup placeOf after
-  refused-by q e = rw e refl
+-- ---- what it has found out
 
-  module _ (r : code.Rows) (reads : Decodes bs r) where
-    pub not-read : r .ok ≡ false → place.Refused 14 ≡ placeOf bs (lookup bs s b)
-    unfolding lookupTable after
-    not-read e = refused-by 14 (rw (reads .not-read e (λ n. leb 1 n && leb n maxJobs) (λ n t. let w = simp tests at t in w .1)) refl)
+-- the table, the slot and the board that are asked for, and what the reader of the table left
+pub record Asked : Type 0 where
+  pub table : List ℕ
+  pub slot : ℕ
+  pub board : ℕ
+  pub lines : Lines
 
-    module _ (ok : r .ok ≡ true) where
-      held : RowsRead bs r
-      held = reads .held ok
+-- how many rows there are
+abbrev pub rows : Asked → ℕ
+rows a = a .lines .counts .count
 
-      -- the arrays are long enough
-      pub fits : (r .count ≤ length (r .start)) × (r .count ≤ length (r .board)) × (r .count ≤ length (r .offset)) × (r .count ≤ 64)
-      fits = omega (arith, held .sizes, held .count-in)
+-- 16 and 17, for any job file: the number of the first that says no, or 0
+abbrev pub cells : Asked → ℕ
+cells a = cellsIn maxLimit 0 (rows a) (a .lines)
 
-      pub no-rows : r .count < 1 → place.Refused 14 ≡ placeOf bs (lookup bs s b)
-      unfolding lookupTable after
-      no-rows h = refused-by 14 (rw (held .decoded (λ n. leb 1 n && leb n maxJobs), ask-no (leb 1 (r .count) && leb (r .count) maxJobs) 14 (got (decodedTable bs (r .count))) (λ t. let w = simp tests at t in omega arith)) refl)
+-- the number of the first row with the slot and the board, or 0
+abbrev pub job : Asked → ℕ
+job a = jobIn 1 (startsIn (rows a) (a .lines)) (boardsIn (rows a) (a .lines)) (a .slot) (a .board)
 
-      module _ (some : 1 ≤ r .count) (q : ℕ) (q-is : q ≡ cellNumber 64 0 (r .slots) (r .boards) (take (r .count) (r .start)) (take (r .count) (r .board))) where
-        asked : lookupTable bs ≡ ask (sized maxLimit maxBoards (decodedTable bs (r .count))) 16 (ask (apartb (r .count) (starts (decodedTable bs (r .count))) (boardsOf (decodedTable bs (r .count)))) 17 (got (decodedTable bs (r .count))))
-        unfolding lookupTable after
-        asked = rw (held .decoded (λ n. leb 1 n && leb n maxJobs), ask-yes (leb 1 (r .count) && leb (r .count) maxJobs) 14 (got (decodedTable bs (r .count))) (simp tests (some, held .count-in)), rows-length bs (r .count)) refl
+-- question 14 is yes: there are rows
+pub record TableRead (a : Asked) : Type 0 where
+  pub read : LinesRead (a .table) (a .lines)
+  pub some : 1 ≤ rows a
 
-        pub bad-cells : (q ≡ 0 → ⊥) → place.Refused q ≡ placeOf bs (lookup bs s b)
-        unfolding choose
-        bad-cells n = refused-by q (asked ∙ cells-no bs r held 64 0 q (got (decodedTable bs (r .count))) q-is n)
+-- and 16 and 17
+pub record CellsRight (a : Asked) : Type 0 where
+  pub table-read : TableRead a
+  pub right : cells a ≡ 0
 
-        module _ (z : q ≡ 0) (j : ℕ) (j-is : j ≡ jobIn 1 (take (r .count) (r .start)) (take (r .count) (r .board)) s b) where
-          job-is : jobAt 1 (decodedTable bs (r .count) .rows) s b ≡ j
-          job-is = job-at 1 (decodedTable bs (r .count) .rows) s b ∙ sym (j-is ∙ rw (held .starts-are, held .boards-are) refl)
+-- and there is a job, the one with number j
+pub record JobFound (a : Asked) (j : ℕ) : Type 0 where
+  pub cells-right : CellsRight a
+  pub job-is : j ≡ job a
+  pub one : j ≡ 0 → ⊥
 
-          answered : lookup bs s b ≡ got j
-          unfolding lookup after choose
-          answered = rw (asked ∙ cells-yes bs r held 64 0 q (got (decodedTable bs (r .count))) q-is z) (ap got job-is)
+-- ---- the ways out
 
-          pub idle : j ≡ 0 → place.Idle ≡ placeOf bs (lookup bs s b)
-          unfolding placeOf
-          idle e = rw (answered, e) refl
+-- the answer is this place
+abbrev pub Finds : Asked → Place → Type 0
+Finds a p = p ≡ placeOf (a .table) (lookup (a .table) (a .slot) (a .board))
 
-          module _ (job : j ≡ 0 → ⊥) where
-            -- the job's row
-            pub row-in : j - 1 < r .count
-            row-in =
-                let e : j ≡ suc (j - 1) = omega arith in
-                let w = job-row s b 1 (decodedTable bs (r .count) .rows) (j - 1) (job-is ∙ e) in
-                omega (arith, w .1, w .2 .row-in, rows-length bs (r .count))
+refused-by : (a : Asked) (q : ℕ) → lookupTable (a .table) ≡ refused q → Finds a (place.Refused q)
+unfolding lookup placeOf after
+refused-by a q e = rw e refl
 
-            pub row-here : (a : ℕ) → a ≡ at (r .offset) (j - 1) → (a ≡ rowStart bs (j - 1)) × T (isRow bs a)
-            row-here a e = let p : a ≡ rowStart bs (j - 1) = e ∙ held .offsets-are (j - 1) row-in in (p, rw p (held .rows-are (j - 1) row-in))
+-- the rows are not read
+pub not-read : (a : Asked) → LinesAsked (a .table) (a .lines) → a .lines .counts .ok ≡ false → Finds a (place.Refused 14)
+unfolding lookupTable after
+not-read a asked e = refused-by a 14 (rw (asked .not-read e (λ n. leb 1 n && leb n maxJobs) (λ n t. let w = simp tests at t in w .1)) refl)
 
-            -- its end is in the table
-            pub row-ends : (a : ℕ) → a ≡ at (r .offset) (j - 1) → (v : List ℕ) → v ≡ value bs a → (5 ≤ length v) × (a + 3 + length v ≤ length bs)
-            row-ends a e v w = let i = row-is bs a .0 (row-here a e .1) in omega (arith, ap length w, i .sizes, length-value bs a (i .is-whole), whole-is bs a .0 (i .is-whole))
+-- there are none
+pub no-rows : (a : Asked) → LinesRead (a .table) (a .lines) → rows a < 1 → Finds a (place.Refused 14)
+unfolding lookupTable after
+no-rows a read h = refused-by a 14 (rw (
+  read .decoded (λ n. leb 1 n && leb n maxJobs),
+  ask-no (leb 1 (rows a) && leb (rows a) maxJobs) 14 (got (decodedTable (a .table) (rows a))) (λ t. let w = simp tests at t in omega arith),
+) refl)
 
-            pub found-here : (a : ℕ) → a ≡ at (r .offset) (j - 1) → (v : List ℕ) → v ≡ value bs a → place.Name j (a + 7) (a + 3 + length v) ≡ placeOf bs (lookup bs s b)
-            unfolding placeOf nameSpan rowStart
-            found-here a e v w =
-                let p = row-here a e in
-                let i : j ≡ suc (j - 1) = omega arith in
-                let l : a + 3 + length v ≡ fieldEnd bs a = omega (arith, ap length w, length-value bs a (row-is bs a .0 (p .1) .is-whole), after-head bs a) in
-                rw (answered, i, l, p .0) refl
+-- the table, from its rows
+abbrev tableOf : Asked → Table
+tableOf a = decodedTable (a .table) (rows a)
+
+module _ {a : Asked} (r : TableRead a) where
+  asks : lookupTable (a .table) ≡ askCells (a .table) (a .lines) (r .read) maxLimit 0 (rows a) refl (got (tableOf a))
+  unfolding lookupTable after choose
+  asks = rw (
+    r .read .decoded (λ n. leb 1 n && leb n maxJobs),
+    ask-yes (leb 1 (rows a) && leb (rows a) maxJobs) 14 (got (tableOf a)) (simp tests (r .some, r .read .count-in)),
+    rows-length (a .table) (rows a),
+  ) refl
+
+  -- question 16 or 17 says no
+  pub bad-cells : {q : ℕ} → q ≡ cells a → (q ≡ 0 → ⊥) → Finds a (place.Refused q)
+  bad-cells {q} e n = refused-by a q (asks ∙ cells-no (a .table) (a .lines) (r .read) maxLimit 0 (rows a) refl (got (tableOf a)) q e n)
+
+module _ {a : Asked} (r : CellsRight a) where
+  abbrev lines-read : LinesRead (a .table) (a .lines)
+  lines-read = r .table-read .read
+
+  job-at-is : jobAt 1 (tableOf a .rows) (a .slot) (a .board) ≡ job a
+  job-at-is = job-at 1 (tableOf a .rows) (a .slot) (a .board) ∙ sym (rw (lines-read .starts-are, lines-read .boards-are) refl)
+
+  answered : lookup (a .table) (a .slot) (a .board) ≡ got (job a)
+  unfolding lookup after
+  answered =
+      rw (asks (r .table-read) ∙ cells-yes (a .table) (a .lines) lines-read maxLimit 0 (rows a) refl (got (tableOf a)) (r .right))
+      (ap got job-at-is)
+
+  -- no row has the slot and the board
+  pub idle : {j : ℕ} → j ≡ job a → j ≡ 0 → Finds a place.Idle
+  unfolding placeOf
+  idle e z = rw (answered, sym e ∙ z) refl
+
+module _ {a : Asked} {j : ℕ} (f : JobFound a j) where
+  abbrev read-so : LinesRead (a .table) (a .lines)
+  read-so = f .cells-right .table-read .read
+
+  next : j ≡ suc (j - 1)
+  next = let h = f .one in omega arith
+
+  -- the job's row
+  pub row-in : j - 1 < rows a
+  row-in =
+      let w = job-row (a .slot) (a .board) 1 (tableOf a .rows) (j - 1) (job-at-is (f .cells-right) ∙ sym (f .job-is) ∙ next) in
+      omega (arith, w .1, w .2 .row-in, rows-length (a .table) (rows a))
+
+  module _ {o : ℕ} (o-is : o ≡ at (a .lines .offsets) (j - 1)) where
+    -- it starts at offset o
+    row-here : o ≡ rowStart (a .table) (j - 1)
+    row-here = o-is ∙ read-so .offsets-are (j - 1) row-in
+
+    row-at : IsRow (a .table) o
+    row-at = row-is (a .table) o .0 (rw row-here (read-so .rows-are (j - 1) row-in))
+
+    pub row-whole : T (whole (a .table) o)
+    row-whole = row-at .is-whole
+
+    -- its end is in the table
+    pub row-ends : {v : List ℕ} → v ≡ value (a .table) o → (5 ≤ length v) × (o + 3 + length v ≤ length (a .table))
+    row-ends w = omega (arith, ap length w, row-at .sizes, length-value (a .table) o row-whole, whole-is (a .table) o .0 row-whole)
+
+    pub found-here : {v : List ℕ} → v ≡ value (a .table) o → Finds a (place.Name j (o + 7) (o + 3 + length v))
+    unfolding placeOf nameSpan rowStart
+    found-here {v} w =
+        let l : o + 3 + length v ≡ fieldEnd (a .table) o = omega (arith, ap length w, length-value (a .table) o row-whole, after-head (a .table) o) in
+        rw (answered (f .cells-right), sym (f .job-is) ∙ next, l, row-here) (rw (sym next) refl)
+
+-- ---- what a place says
 
 -- the job of the place is the lookup's answer
 pub job-found : (bs : List ℕ) (x : Answer ℕ) → jobOf (placeOf bs x) ≡ foundOf x
@@ -102,7 +165,7 @@ job-found bs (got (suc i)) = refl
 
 -- a name lies in the table, and near its front
 unfoldable Lies : List ℕ → Place → Type 0
-Lies bs (place.Name j a e) = (a ≤ e) × (e ≤ length bs) × (e ≤ 1222)
+Lies bs (place.Name j a e) = (a ≤ e) × (e ≤ length bs) × (e ≤ tableSize)
 Lies bs place.Idle = Unit {0}
 Lies bs (place.Refused q) = Unit {0}
 
@@ -114,11 +177,11 @@ lies bs s b = go (lookup bs s b) refl
     go (got zero) e = unfold Lies placeOf in tt
     go (got (suc i)) e = unfold Lies placeOf nameSpan in name-lies bs s b i e
 
-pub name-in : (bs : List ℕ) (s b j a e : ℕ) → placeOf bs (lookup bs s b) ≡ place.Name j a e → (a ≤ e) × (e ≤ length bs) × (e ≤ 1222)
+pub name-in : (bs : List ℕ) (s b j a e : ℕ) → placeOf bs (lookup bs s b) ≡ place.Name j a e → (a ≤ e) × (e ≤ length bs) × (e ≤ tableSize)
 unfolding Lies
 name-in bs s b j a e q = subst (Lies bs) q (lies bs s b)
 
--- a job's number is at most 64
+-- a job's number is at most 400
 unfoldable Small : Found → Type 0
 Small (found.Job j) = j ≤ maxJobs
 Small found.Idle = Unit {0}

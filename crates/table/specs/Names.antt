@@ -6,7 +6,7 @@ use Prim.Native.Nat.{ℕ, zero, suc, _+_, _*_, _≤_, _<_}
 use native.Mathlib.Omega.{arith}
 use lib.ListN.{length}
 use lib.Dec.{T, leb}
-use Rattle.rules.specs.Sizes.{maxJobs}
+use Rattle.rules.specs.Sizes.{maxJobs, tableSize}
 use Rattle.rules.specs.Fields.{Answer, refused, got, part}
 use Rattle.rules.specs.Table.{rowStart}
 use Rattle.rules.specs.Answers.{jobAt, lookupTable, lookup, nameSpan, nameAt}
@@ -40,13 +40,13 @@ module _ (bs : List ℕ) (s b : ℕ) where
       let l = lookup-only bs (w .0) (w .1) s b i e .row-in in
       (omega (arith, l, few), λ k h. decoded-is bs _ (w .0) p .0 k (omega (arith, l)))
 
-  -- a job number is at most 64
+  -- a job number is at most 400
   pub job-few : (j : ℕ) → lookup bs s b ≡ got j → j ≤ maxJobs
   job-few zero e = omega arith
   job-few (suc i) e = omega (arith, found-rows i e .0)
 
   -- the name lies in the table, and near its front
-  pub name-lies : (i : ℕ) → lookup bs s b ≡ got (suc i) → (rowStart bs i + 7 ≤ rowStart bs (suc i)) × (rowStart bs (suc i) ≤ length bs) × (rowStart bs (suc i) ≤ 1222)
+  pub name-lies : (i : ℕ) → lookup bs s b ≡ got (suc i) → (rowStart bs i + 7 ≤ rowStart bs (suc i)) × (rowStart bs (suc i) ≤ length bs) × (rowStart bs (suc i) ≤ tableSize)
   name-lies i e = let w = found-rows i e in let l = row-ends bs i (w .1 i (omega arith)) in omega (arith, l, w .0, rows-near bs (suc i) (w .1))
 
   pub name-is : nameAt bs s b ≡ partOf bs (placeOf bs (lookup bs s b))

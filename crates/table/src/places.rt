@@ -7,11 +7,14 @@ use questions::apart;
 use questions::sized;
 use rows::Rows;
 use rows::read_rows;
+use sizes::MAX_JOBS;
+use sizes::MAX_SLOTS;
 ghost use mathlib.Core.Path.{_≡_};
 ghost use mathlib.Core.Bool.{_&&_};
 ghost use Prim.Native.Nat.{_≤_};
-ghost use lib.ListN.{length, take};
+ghost use lib.ListN.{length};
 ghost use lib.Dec.{eqb};
+ghost use Rattle.rules.specs.Sizes.{maxLimit, maxBoards};
 ghost use Rattle.rules.specs.Answers.{lookup as Answers·lookup, nameAt};
 ghost use Rattle.table.specs.Entries.{cellNumber, jobIn, foundOf, placeOf};
 
@@ -35,18 +38,15 @@ pub enum Place {
 
 // Questions 16 and 17 of the rows that were read, for a job file with these sockets: the number of the one that says no, or 0.
 // Without a job file there are none, and the boards are compared with eight.
-pub fn cells(t: Rows, limit: usize, sockets: u8) -> u8
-    requires { ⌜ (t .count ≤ length (t .start)) × (t .count ≤ length (t .board)) ⌝ }
-    ensures { λ r. ⌜ r ≡ cellNumber limit sockets (t .slots) (t .boards) (take (t .count) (t .start)) (take (t .count) (t .board)) ⌝ }
+pub fn cells(t: Rows, start: &[u8], board: &[u8], limit: usize, sockets: u8) -> u8
+    requires { ⌜ (length (now board) ≡ length (now start)) × (limit ≤ maxLimit) × (sockets ≤ maxBoards) ⌝ }
+    ensures { λ r. ⌜ r ≡ cellNumber limit sockets (t .slots) (t .boards) (now (start .entry)) (now (board .entry)) ⌝ }
 {
-    let n = t.count;
-    let start = t.start;
-    let board = t.board;
     let most = wide(most_boards(sockets));
-    if !sized(limit, most, t.slots, t.boards, &start[..n], &board[..n]) {
+    if !sized(limit, most, t.slots, t.boards, start, board) {
         return 16;
     }
-    if !apart(&start[..n], &board[..n]) {
+    if !apart(start, board) {
         return 17;
     }
     0
@@ -82,7 +82,10 @@ fn job_at(start: &[u8], board: &[u8], s: usize, b: usize) -> usize
 pub fn find(table: &[u8], slot: usize, board: usize) -> Place
     ensures { λ r. ⌜ r ≡ placeOf (now (table .entry)) (Answers·lookup (now (table .entry)) slot board) ⌝ }
 {
-    let t = read_rows(table);
+    let mut rows = [0; MAX_JOBS];
+    let mut starts = [0; MAX_JOBS];
+    let mut boards = [0; MAX_JOBS];
+    let t = read_rows(table, &mut rows, &mut starts, &mut boards);
     let n = t.count;
     if !t.ok {
         return Place::Refused(14);
@@ -90,18 +93,15 @@ pub fn find(table: &[u8], slot: usize, board: usize) -> Place
     if n < 1 {
         return Place::Refused(14);
     }
-    let number = cells(t, 64, 0);
+    let number = cells(t, &starts[..n], &boards[..n], MAX_SLOTS, 0);
     if number != 0 {
         return Place::Refused(number);
     }
-    let starts = t.start;
-    let boards = t.board;
     let job = job_at(&starts[..n], &boards[..n], slot, board);
     if job == 0 {
         return Place::Idle;
     }
-    let offsets = t.offset;
-    let row = index(offsets[job - 1]);
+    let row = index(rows[job - 1]);
     let v = value_at(table, row);
     Place::Name {
         job,

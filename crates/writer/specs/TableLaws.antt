@@ -29,7 +29,7 @@ module _ (bs o t b : List ℕ) (slots boards : ℕ) where
   unfolding encode tableWith tabulate rowsBytes headBytes field low high
   no-rows = refl
 
-  pub one-row-more : (i : ℕ) → upTo (i + 1) ≡ upTo i ++ rowBytes (rowWith (at t (63 - i)) (at b (63 - i)) (value bs (at o i)))
+  pub one-row-more : (i : ℕ) → upTo (i + 1) ≡ upTo i ++ rowBytes (rowWith (at t i) (at b i) (value bs (at o i)))
   unfolding encode tableWith
   one-row-more i =
       rw (add-one i) (ap (λ (l : List ℕ). head ++ l) (ap rowsBytes (tabulate-snoc row i 0) ∙ rows-snoc (tabulate row i 0) (row (0 + i)) ∙ ap (λ (n : ℕ). rowsBytes (tabulate row i 0) ++ rowBytes (row n)) zero-i)
@@ -39,7 +39,7 @@ module _ (bs o t b : List ℕ) (slots boards : ℕ) where
       head = field 16 (1 ∷ slots ∷ boards ∷ [])
 
       row : ℕ → Row
-      row j = rowWith (at t (63 - j)) (at b (63 - j)) (value bs (at o j))
+      row j = rowWith (at t j) (at b j) (value bs (at o j))
 
       zero-i : 0 + i ≡ i
       zero-i = omega arith
@@ -55,8 +55,8 @@ module _ (bs o t b : List ℕ) (slots boards : ℕ) where
           bytes-so-far i (omega arith),
           ap (λ (j : ℕ). length (upTo j)) e,
           ap length (one-row-more i),
-          length-append (upTo i) (rowBytes (rowWith (at t (63 - i)) (at b (63 - i)) (value bs (at o i)))),
-          row-length (at t (63 - i)) (at b (63 - i)) (value bs (at o i)) (omega (arith, fields .long i (omega arith))),
+          length-append (upTo i) (rowBytes (rowWith (at t i) (at b i) (value bs (at o i)))),
+          row-length (at t i) (at b i) (value bs (at o i)) (omega (arith, fields .long i (omega arith))),
           fields .short i (omega arith),
         )
 
@@ -95,12 +95,12 @@ module _ (bs o t b : List ℕ) (slots boards : ℕ) where
 
   -- a turn: the row of job i, with its value v, is put behind the others
   pub row-turn : (i : ℕ) (v l table q : List ℕ) (a k size : ℕ) → WrittenTo (upTo bs o t b slots boards i) l a table → v ≡ value bs (at o i) → a + 19 ≤ length l → length v ≤ 14 → 2 ≤ length v
-      → size ≡ length (rowBytes (rowWith (at t (63 - i)) (at b (63 - i)) v)) → k ≡ length table - a → q ≡ rowBytes (rowWith (at t (63 - i)) (at b (63 - i)) v) ++ drop size (midOf a k table)
+      → size ≡ length (rowBytes (rowWith (at t i) (at b i) v)) → k ≡ length table - a → q ≡ rowBytes (rowWith (at t i) (at b i) v) ++ drop size (midOf a k table)
       → WrittenTo (upTo bs o t b slots boards (i + 1)) l (a + size) (putMid a k table q)
   row-turn i v l table q a k size so ev fits short long es ek eq =
-      let r = rowBytes (rowWith (at t (63 - i)) (at b (63 - i)) v) in
-      let room : a + length r ≤ length l = omega (arith, row-length (at t (63 - i)) (at b (63 - i)) v long) in
-      let more = row-written (upTo bs o t b slots boards i) r l table q a k (upTo bs o t b slots boards (i + 1)) so (one-row-more bs o t b slots boards i ∙ ap (λ (x : List ℕ). upTo bs o t b slots boards i ++ rowBytes (rowWith (at t (63 - i)) (at b (63 - i)) x)) (sym ev)) room ek (rw (← es) eq) in
+      let r = rowBytes (rowWith (at t i) (at b i) v) in
+      let room : a + length r ≤ length l = omega (arith, row-length (at t i) (at b i) v long) in
+      let more = row-written (upTo bs o t b slots boards i) r l table q a k (upTo bs o t b slots boards (i + 1)) so (one-row-more bs o t b slots boards i ∙ ap (λ (x : List ℕ). upTo bs o t b slots boards i ++ rowBytes (rowWith (at t i) (at b i) x)) (sym ev)) room ek (rw (← es) eq) in
       rw es more
 
   -- at the end the table stands in front of what the buffer had behind it

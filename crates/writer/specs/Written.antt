@@ -21,9 +21,9 @@ fixedBytes size start board level = 17 ∷ size ∷ 0 ∷ start ∷ board ∷ lo
 unfoldable pub rowWith : ℕ → ℕ → List ℕ → Row
 rowWith start board v = record { start = start; board = board; level = centimetres (jobOf v .level); name = jobOf v .name }
 
--- the table of the jobs whose fields stand at the offsets o of the file, with starts and boards by place
+-- the table of the jobs whose fields stand at the offsets o of the file, with their starts and boards
 unfoldable pub tableWith : List ℕ → List ℕ → List ℕ → List ℕ → ℕ → ℕ → ℕ → Table
-tableWith bs o t b n slots boards = record { slots = slots; boards = boards; rows = tabulate (λ i. rowWith (at t (63 - i)) (at b (63 - i)) (value bs (at o i))) n 0 }
+tableWith bs o t b n slots boards = record { slots = slots; boards = boards; rows = tabulate (λ i. rowWith (at t i) (at b i) (value bs (at o i))) n 0 }
 
 -- the first n offsets are those of whole job fields
 pub record JobFields (bs o : List ℕ) (n : ℕ) : Type 0 where

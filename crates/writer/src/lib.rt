@@ -1,13 +1,13 @@
 // Writing the table: its head, then a field for each job in number order.
-//
-// Starts and boards are by place: those of job i, counted from 0, stand at 63 - i.
 use fields::index;
 use fields::value_at;
 use fields::word_at;
+use sizes::MAX_JOBS;
 ghost use mathlib.Core.Path.{_≡_};
 ghost use mathlib.Core.List.{_++_};
 ghost use Prim.Native.Nat.{_+_, _<_, _≤_};
 ghost use lib.ListN.{length, drop};
+ghost use Rattle.rules.specs.Sizes.{maxJobs, tableSize};
 ghost use Rattle.rules.specs.Table.{rowBytes, encode};
 ghost use Rattle.writer.specs.Written.{headBytes, fixedBytes, rowWith, tableWith, JobFields};
 
@@ -47,15 +47,15 @@ fn put_row(v: &[u8], start: u8, board: u8, table: &mut [u8]) -> usize
 // The whole table, for the jobs whose fields stand at `offsets` in the file; gives its length.
 pub fn write_table(
     file: &[u8],
-    offsets: &[u16; 64],
-    starts: &[u8; 64],
-    boards: &[u8; 64],
+    offsets: &[u16; MAX_JOBS],
+    starts: &[u8; MAX_JOBS],
+    boards: &[u8; MAX_JOBS],
     jobs: usize,
     slots: u8,
     count: u8,
     table: &mut [u8],
 ) -> usize
-    requires { ⌜ (jobs ≤ 64) × (1222 ≤ length (now table)) × JobFields (now file) (now offsets) jobs ⌝ }
+    requires { ⌜ (jobs ≤ maxJobs) × (tableSize ≤ length (now table)) × JobFields (now file) (now offsets) jobs ⌝ }
     ensures size { λ r. ⌜ r ≡ length (encode (tableWith (now (file .entry)) (now (offsets .entry)) (now (starts .entry)) (now (boards .entry)) jobs slots count)) ⌝ }
     ensures bytes { λ r. ⌜ now (table .exit) ≡ encode (tableWith (now (file .entry)) (now (offsets .entry)) (now (starts .entry)) (now (boards .entry)) jobs slots count) ++ drop r (now (table .entry)) ⌝ }
 {
@@ -64,8 +64,8 @@ pub fn write_table(
     let mut i = 0;
     while i < jobs {
         let v = value_at(file, index(offsets[i]));
-        let start = starts[63 - i];
-        let board = boards[63 - i];
+        let start = starts[i];
+        let board = boards[i];
         let size = put_row(v, start, board, &mut table[at..]);
         at += size;
         i += 1;

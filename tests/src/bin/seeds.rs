@@ -9,21 +9,28 @@ use gate_tests::reference::reading::{read, JobFile};
 use gate_tests::reference::table::LONGEST_TABLE;
 
 const COUNT: u64 = 100;
+/// The longest input that `tests/fuzz` allows.
+const LONGEST: usize = 16_384;
 
 fn main() -> std::io::Result<()> {
     let folder = std::env::args().nth(1).expect("a folder");
     for kind in ["plan", "check", "lookup", "changed"] {
         std::fs::create_dir_all(format!("{folder}/{kind}"))?;
         for index in 0..COUNT {
-            std::fs::write(format!("{folder}/{kind}/{index:02}"), seed(&mut Random::new(0, index), kind))?;
+            let mut random = Random::new(0, index);
+            let seeds = std::iter::repeat_with(|| seed(&mut random, kind));
+            let seed = seeds.into_iter().find(|seed| seed.len() <= LONGEST).expect("short ones come again and again");
+            std::fs::write(format!("{folder}/{kind}/{index:02}"), seed)?;
         }
     }
     Ok(())
 }
 
 fn seed(random: &mut Random, kind: &str) -> Vec<u8> {
-    let most = random.pick(&[3, 8, 20, 64]);
-    let draft = Draft::sound(random, most);
+    let draft = match random.pick(&[3, 8, 20, 64, 400]) {
+        400 => Draft::many(random),
+        most => Draft::sound(random, most),
+    };
     let file = draft.mixed_bytes(random);
     match kind {
         "plan" if random.percent(30) => [&[0, 0], &damage::fields(random, &draft)[..]].concat(),

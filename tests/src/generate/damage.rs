@@ -1,11 +1,12 @@
 //! Damage to job files: one field or one byte at a time, for each question on its own, or anywhere.
 
-use super::drafts::{boards_field, field, job_field, level, name, need_field, Draft};
+use super::drafts::{boards_field, field, job_field, level, name, some_need_field, Draft};
 use super::random::Random;
+use crate::reference::reading::MOST_JOBS;
 
 /// A file in which one thing that a question asks is wrong, or a need is given once more, at a place of its own choosing; now and then two.
 pub fn fields(random: &mut Random, draft: &Draft) -> Vec<u8> {
-    let mut fields = draft.fields();
+    let mut fields = draft.mixed_fields(random);
     for _ in 0..random.pick(&[1, 1, 1, 2]) {
         match random.below(5) {
             0 => head_fields(random, &mut fields),
@@ -49,33 +50,47 @@ fn jobs(random: &mut Random, draft: &Draft, fields: &mut Vec<Vec<u8>>) {
             fields.insert(at, job_field(fresh.0, &name));
         }
         3 => {
-            let more = 65 - draft.jobs.len().min(64);
+            let more = MOST_JOBS + 1 - draft.jobs.len();
             fields.extend((0..more).map(|_| job_field(fresh.0, &fresh.1)));
         }
         4 => {
-            let more = 64 - draft.jobs.len().min(64);
+            let more = MOST_JOBS - draft.jobs.len();
             fields.extend((0..more).map(|_| job_field(fresh.0, &fresh.1)));
             fields.push(job_field(fresh.0, random.pick(&[&b"ok"[..], b"", b"not ok"])));
         }
-        _ => fields.retain(|field| field[0] != 3 && field[0] != 4),
+        _ => fields.retain(|field| ![3, 4, 6].contains(&field[0])),
     }
 }
 
-/// Needs: wrong lengths, numbers of no job, back again, round in a circle; and the same twice, which is no damage.
+/// Needs of either tag: wrong lengths, numbers of no job, back again, round in a circle; and the same twice, which is no
+/// damage.
 fn needs(random: &mut Random, draft: &Draft, fields: &mut Vec<Vec<u8>>) {
-    let jobs = draft.jobs.len() as u8;
-    let job = random.below(jobs as usize) as u8 + 1;
-    let wrong = random.pick(&[0, jobs + 1, jobs + 2, 128, 255, job]);
+    let jobs = draft.jobs.len() as u16;
+    let job = random.below(jobs as usize) as u16 + 1;
+    let wrong = random.pick(&[0, jobs + 1, jobs + 2, 128, 255, 256, 257, 256 + job, job.swap_bytes(), 65_535, job]);
     let at = anywhere(random, fields);
     let known = (!draft.needs.is_empty()).then(|| draft.needs[random.below(draft.needs.len())]);
-    match (random.below(7), known) {
-        (0, _) => fields.insert(at, field(4, random.pick(&[&[][..], &[1], &[1, 2, 3]]))),
+    let (kind, unfit) = (random.below(7), need_of_wrong_length(random));
+    let mut need_field = |giver, taker| some_need_field(random, 50, (giver, taker));
+    match (kind, known) {
+        (0, _) => fields.insert(at, unfit),
         (1, _) => fields.insert(at, need_field(job, wrong)),
         (2, _) => fields.insert(at, need_field(wrong, job)),
         (3, Some((giver, taker))) => fields.push(need_field(giver, taker)),
         (4, Some((giver, taker))) => fields.push(need_field(taker, giver)),
         (5, Some((giver, taker))) => fields.extend([need_field(taker, job), need_field(job, giver)]),
         _ => fields.insert(2.min(fields.len()), need_field(job, jobs)),
+    }
+}
+
+/// Among them a need of each tag with the length of the other's.
+fn need_of_wrong_length(random: &mut Random) -> Vec<u8> {
+    let short = [&[][..], &[1], &[1, 2, 3], &[1, 0, 2, 0]];
+    let wide = [&[][..], &[1], &[1, 2], &[1, 0, 2], &[1, 0, 2, 0, 0]];
+    if random.percent(50) {
+        field(4, random.pick(&short))
+    } else {
+        field(6, random.pick(&wide))
     }
 }
 
@@ -93,7 +108,7 @@ fn boards(random: &mut Random, fields: &mut Vec<Vec<u8>>) {
         }
         3 => fields.insert(random.below(2).min(fields.len()), given),
         4 if fields.len() > 1 => fields[random.below(2)] = given,
-        _ => fields.insert(at, field(random.pick(&[6, 7, 8, 10]), &[2])),
+        _ => fields.insert(at, field(random.pick(&[7, 8, 10]), &[2])),
     }
 }
 
@@ -122,11 +137,11 @@ pub fn bytes(random: &mut Random, file: &mut Vec<u8>) {
         let at = random.between(0, file.len());
         match random.below(6) {
             0 => file.insert(at, random.byte()),
-            1 => file.insert(at, random.pick(&[0, 1, 2, 3, 4, 5, 9])),
+            1 => file.insert(at, random.pick(&[0, 1, 2, 3, 4, 5, 6, 9])),
             _ if at == file.len() => drop(file.pop()),
             2 => drop(file.remove(at)),
             3 => file[at] ^= 1 << random.below(8),
-            4 => file[at] = random.pick(&[0, 1, 2, 3, 4, 5, 8, 9, 16, 17, 32, 33, 64, 65, 126, 127, 128, 255]),
+            4 => file[at] = random.pick(&[0, 1, 2, 3, 4, 5, 6, 8, 9, 16, 17, 32, 33, 64, 65, 126, 127, 128, 255]),
             _ => file[at] = random.byte(),
         }
     }

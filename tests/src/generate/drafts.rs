@@ -1,8 +1,9 @@
 //! Job files in the making: parts that are still apart, and their bytes.
 
 use super::limits;
+use super::many;
 use super::random::Random;
-use super::shapes::Shape;
+use super::shapes::{room_for_needs, Shape};
 use crate::reference::reading::{LONGEST_FILE, MOST_BOARDS};
 
 /// Limit, most boards, jobs and needs of a file. Needs have job numbers from 1.
@@ -11,8 +12,13 @@ pub struct Draft {
     pub limit: u8,
     pub boards: Option<u8>,
     pub jobs: Vec<(i16, Vec<u8>)>,
-    pub needs: Vec<(u8, u8)>,
+    pub needs: Vec<(u16, u16)>,
 }
+
+/// How many files in a hundred have many jobs.
+const MANY: usize = 20;
+/// Of the needs of a file, how many in a hundred have tag 6 although tag 4 reaches their jobs.
+const WIDE: [usize; 5] = [0, 0, 20, 50, 100];
 
 /// A field with its head.
 pub fn field(tag: u8, value: &[u8]) -> Vec<u8> {
@@ -24,8 +30,26 @@ pub fn job_field(level: i16, name: &[u8]) -> Vec<u8> {
     field(3, &[&level.to_le_bytes(), name].concat())
 }
 
-pub fn need_field(giver: u8, taker: u8) -> Vec<u8> {
-    field(4, &[giver, taker])
+/// A need with tag 4 where it reaches both jobs, else with tag 6.
+pub fn need_field(giver: u16, taker: u16) -> Vec<u8> {
+    match (u8::try_from(giver), u8::try_from(taker)) {
+        (Ok(giver), Ok(taker)) => field(4, &[giver, taker]),
+        _ => wide_need_field(giver, taker),
+    }
+}
+
+/// A need with tag 6.
+pub fn wide_need_field(giver: u16, taker: u16) -> Vec<u8> {
+    field(6, &[giver.to_le_bytes(), taker.to_le_bytes()].concat())
+}
+
+/// A need with tag 6 in so many of a hundred cases, and where tag 4 does not reach.
+pub fn some_need_field(random: &mut Random, wide: usize, (giver, taker): (u16, u16)) -> Vec<u8> {
+    if random.percent(wide) {
+        wide_need_field(giver, taker)
+    } else {
+        need_field(giver, taker)
+    }
 }
 
 pub fn boards_field(boards: u8) -> Vec<u8> {
@@ -34,15 +58,31 @@ pub fn boards_field(boards: u8) -> Vec<u8> {
 
 impl Draft {
     /// Jobs named a, b, .. with levels 10, 20, .., for files written by hand.
-    pub fn plain(limit: u8, jobs: usize, needs: &[(u8, u8)]) -> Draft {
+    pub fn plain(limit: u8, jobs: usize, needs: &[(u16, u16)]) -> Draft {
         let job = |number: usize| (10 * number as i16, vec![b'a' + ((number - 1) % 26) as u8]);
         Draft { limit, boards: None, jobs: (1..=jobs).map(job).collect(), needs: needs.to_vec() }
     }
 
     /// A chain of needs through all jobs.
-    pub fn chain(limit: u8, jobs: u8) -> Draft {
-        let needs: Vec<(u8, u8)> = (1..jobs).map(|giver| (giver, giver + 1)).collect();
+    pub fn chain(limit: u8, jobs: u16) -> Draft {
+        let needs: Vec<(u16, u16)> = (1..jobs).map(|giver| (giver, giver + 1)).collect();
         Draft::plain(limit, jobs as usize, &needs)
+    }
+
+    /// So many chains side by side, their first jobs numbered first, then their second ones, and so on.
+    pub fn side_by_side(limit: u8, chains: u16, length: u16) -> Draft {
+        let jobs = chains * length;
+        let needs: Vec<(u16, u16)> = (chains + 1..=jobs).map(|taker| (taker - chains, taker)).collect();
+        Draft::plain(limit, jobs as usize, &needs)
+    }
+
+    /// A sound draft of any size: mostly of up to 64 jobs, now and then of many.
+    pub fn any(random: &mut Random) -> Draft {
+        if random.percent(MANY) {
+            Draft::many(random)
+        } else {
+            Draft::sound(random, 64)
+        }
     }
 
     /// A sound shape of up to this many jobs, with limit and most boards near an edge, and any levels and names.
@@ -54,20 +94,37 @@ impl Draft {
         if boards.is_some() && random.percent(60) {
             boards = limits::few_boards(random, &shape).or(boards);
         }
-        let limit = limits::near_an_edge(random, &shape, boards.unwrap_or(MOST_BOARDS));
-        Draft::of_shape(random, &shape, limit, boards)
+        Draft::near_an_edge(random, &shape, boards)
+    }
+
+    /// The same of more than 64 jobs. Most boards, where given, are always near an edge, and the limit is often the fewest slots:
+    /// with others most of these shapes are refused.
+    pub fn many(random: &mut Random) -> Draft {
+        let tries = random.below(9);
+        let shape = many::narrow_shape(random, tries);
+        let boards = if random.percent(50) { limits::few_boards(random, &shape) } else { None };
+        let fewest = limits::fewest_slots(&shape, boards.unwrap_or(MOST_BOARDS));
+        match fewest.filter(|_| random.percent(40)) {
+            Some(limit) => Draft::of_shape(random, &shape, limit, boards),
+            None => Draft::near_an_edge(random, &shape, boards),
+        }
+    }
+
+    fn near_an_edge(random: &mut Random, shape: &Shape, boards: Option<u8>) -> Draft {
+        let limit = limits::near_an_edge(random, shape, boards.unwrap_or(MOST_BOARDS));
+        Draft::of_shape(random, shape, limit, boards)
     }
 
     /// A shape with any levels and names.
     pub fn of_shape(random: &mut Random, shape: &Shape, limit: u8, boards: Option<u8>) -> Draft {
         let jobs = (0..shape.jobs).map(|_| (level(random), name(random))).collect();
-        let needs = shape.needs.iter().map(|&(giver, taker)| (giver as u8 + 1, taker as u8 + 1)).collect();
+        let needs = shape.needs.iter().map(|&(giver, taker)| (giver as u16 + 1, taker as u16 + 1)).collect();
         Draft { limit, boards, jobs, needs }
     }
 
     /// The same with the jobs of `extras` behind its own, and their needs, numbered on.
     pub fn with_extras(&self, extras: &Draft) -> Draft {
-        let first = self.jobs.len() as u8;
+        let first = self.jobs.len() as u16;
         let needs = extras.needs.iter().map(|&(giver, taker)| (first + giver, first + taker));
         Draft {
             limit: self.limit,
@@ -79,10 +136,26 @@ impl Draft {
 
     /// The fields: header, limit, jobs, needs, most boards.
     pub fn fields(&self) -> Vec<Vec<u8>> {
+        self.fields_by(|(giver, taker)| need_field(giver, taker))
+    }
+
+    /// The same fields with tag 6 for some needs that tag 4 reaches, for all or for none.
+    pub fn mixed_fields(&self, random: &mut Random) -> Vec<Vec<u8>> {
+        let wide = random.pick(&WIDE);
+        self.fields_by(|need| some_need_field(random, wide, need))
+    }
+
+    fn fields_by(&self, need_field: impl FnMut((u16, u16)) -> Vec<u8>) -> Vec<Vec<u8>> {
+        let mut fields = self.front();
+        fields.extend(self.needs.iter().copied().map(need_field));
+        fields.extend(self.boards.map(boards_field));
+        fields
+    }
+
+    /// Header, limit and jobs.
+    fn front(&self) -> Vec<Vec<u8>> {
         let mut fields = vec![field(1, &[1]), field(2, &[self.limit])];
         fields.extend(self.jobs.iter().map(|(level, name)| job_field(*level, name)));
-        fields.extend(self.needs.iter().map(|&(giver, taker)| need_field(giver, taker)));
-        fields.extend(self.boards.map(boards_field));
         fields
     }
 
@@ -90,26 +163,30 @@ impl Draft {
         self.fields().concat()
     }
 
-    /// The same with some of its needs given again, in up to six fields more; now and then with all of them, one to four times more.
+    /// The same with some of its needs given again, in up to six fields more; now and then with all of them, one to four times
+    /// more; as far as there is room.
     pub fn with_copies(&self, random: &mut Random) -> Draft {
         let copies = match random.below(4) {
             _ if self.needs.is_empty() => Vec::new(),
             0 => self.needs.repeat(random.between(1, 4)),
             _ => (0..random.between(1, 6)).map(|_| random.pick(&self.needs)).collect(),
         };
-        Draft { needs: [&self.needs[..], &copies].concat(), ..self.clone() }
+        let mut needs = [&self.needs[..], &copies].concat();
+        needs.truncate(room_for_needs(self.jobs.len()));
+        Draft { needs, ..self.clone() }
     }
 
-    /// The same jobs and needs, each need anywhere behind its two jobs, and most boards and comments anywhere; in a quarter
-    /// of the files with copies of needs.
+    /// The same jobs and needs, each need anywhere behind its two jobs and by either tag that reaches them, and most boards
+    /// and comments anywhere; in a quarter of the files with copies of needs. The plain bytes where these are too many.
     pub fn mixed_bytes(&self, random: &mut Random) -> Vec<u8> {
         let needs = if random.percent(25) { self.with_copies(random).needs } else { self.needs.clone() };
-        let mut fields: Vec<Vec<u8>> = self.fields()[..2 + self.jobs.len()].to_vec();
+        let wide = random.pick(&WIDE);
+        let mut fields = self.front();
         // job number k stands at place k + 1; a need may stand at any place behind both of its jobs
         let mut places: Vec<Vec<Vec<u8>>> = vec![Vec::new(); fields.len()];
-        for (giver, taker) in needs {
-            let place = random.between(giver.max(taker) as usize + 1, fields.len() - 1);
-            places[place].push(need_field(giver, taker));
+        for need in needs {
+            let place = random.between(need.0.max(need.1) as usize + 1, fields.len() - 1);
+            places[place].push(some_need_field(random, wide, need));
         }
         if let Some(boards) = self.boards {
             let (last, any) = (fields.len() - 1, random.between(1, fields.len() - 1));

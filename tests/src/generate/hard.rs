@@ -1,19 +1,19 @@
 //! Hard files: needs changed step by step so that the search meets more and more states.
 
-use super::limits::{narrow_shape, too_wide, widest};
+use super::limits::{too_wide, widest};
 use super::random::Random;
 use super::shapes::Shape;
 use crate::reference::needs::Graph;
 use crate::reference::search;
 
-/// Shapes with this many jobs, each at least as hard for this many boards as the one before, found in so many steps.
-pub fn shapes(random: &mut Random, jobs: usize, most_boards: u8, steps: usize) -> Vec<Shape> {
-    let mut found = vec![narrow_shape(random, jobs, most_boards, 50)];
+/// Shapes with as many jobs as this one, each at least as hard for this many boards as the one before, found in so many steps.
+pub fn shapes(random: &mut Random, first: Shape, most_boards: u8, steps: usize) -> Vec<Shape> {
+    let mut found = vec![first];
     let mut effort = effort_of(&found[0], most_boards);
     for _ in 0..steps {
         let mut changed = found[found.len() - 1].clone();
         for _ in 0..random.between(1, 3) {
-            toggle(random, &mut changed);
+            change(random, &mut changed);
         }
         let effort_now = effort_of(&changed, most_boards);
         if effort_now >= effort.max(1) {
@@ -24,12 +24,12 @@ pub fn shapes(random: &mut Random, jobs: usize, most_boards: u8, steps: usize) -
     found
 }
 
-/// Adds a need, or takes it away if it is there.
-fn toggle(random: &mut Random, shape: &mut Shape) {
+/// Takes a need away, or adds one that is not there.
+fn change(random: &mut Random, shape: &mut Shape) {
     let need = (random.below(shape.jobs), random.below(shape.jobs));
-    if shape.needs.contains(&need) {
-        shape.needs.retain(|other| *other != need);
-    } else if need.0 != need.1 {
+    if random.percent(50) && !shape.needs.is_empty() {
+        shape.needs.swap_remove(random.below(shape.needs.len()));
+    } else if need.0 != need.1 && !shape.needs.contains(&need) {
         shape.needs.push(need);
     }
 }

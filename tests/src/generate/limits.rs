@@ -9,9 +9,7 @@ use crate::reference::search;
 
 /// The fewest slots that leave no window empty and have a board for each job.
 fn least_slots(graph: &Graph, most_boards: u8) -> i32 {
-    let windows = graph.windows(64);
-    let for_windows = (0..graph.jobs()).map(|job| windows.releases[job] + 65 - windows.deadlines[job]).max();
-    for_windows.unwrap_or(1).max(graph.jobs().div_ceil(most_boards as usize) as i32)
+    graph.least_slots().max(graph.jobs().div_ceil(most_boards as usize) as i32)
 }
 
 /// The most slots at which the shape is not too wide, or the least if there are none.
@@ -50,12 +48,17 @@ pub fn near_an_edge(random: &mut Random, shape: &Shape, most_boards: u8) -> u8 {
         9..=12 => widest,
         13 => widest + 1,
         14 => random.between(1, 64) as i32,
-        _ => match best(&graph, most_boards) {
-            Some(starts) => lists::slots(&starts) as i32 - random.below(2) as i32,
+        _ => match fewest_slots(shape, most_boards) {
+            Some(fewest) => fewest as i32 - random.below(2) as i32,
             None => widest,
         },
     };
     limit.clamp(1, 64) as u8
+}
+
+/// The fewest slots in which the shape can be planned; none if it is too wide or takes more than there may be.
+pub fn fewest_slots(shape: &Shape, most_boards: u8) -> Option<u8> {
+    best(&Graph::new(shape.jobs, &shape.needs), most_boards).map(|starts| lists::slots(&starts) as u8)
 }
 
 /// As many boards as the shape takes where there are eight, or one or two fewer; none where it takes one or two, or is too

@@ -5,6 +5,7 @@ pub mod drafts;
 pub mod grown;
 pub mod hard;
 pub mod limits;
+pub mod many;
 pub mod random;
 pub mod shapes;
 pub mod tables;

@@ -2,6 +2,7 @@
 //! circles among them, are counted from 1.
 
 use super::random::Random;
+use crate::reference::reading::LONGEST_FILE;
 
 #[derive(Clone, Debug)]
 pub struct Shape {
@@ -37,14 +38,29 @@ pub fn full(random: &mut Random, jobs: usize) -> Shape {
 }
 
 /// All needs between up to so many jobs, numbered from 1, with and without circles: how many jobs, and the needs.
-pub fn all_needs(most: u8) -> impl Iterator<Item = (u8, Vec<(u8, u8)>)> {
+pub fn all_needs(most: u8) -> impl Iterator<Item = (u8, Vec<(u16, u16)>)> {
     (1..=most).flat_map(|jobs| {
-        let pairs: Vec<(u8, u8)> =
-            (1..=jobs).flat_map(|giver| (1..=jobs).map(move |taker| (giver, taker))).filter(|(a, b)| a != b).collect();
+        let numbers = 1..=jobs as u16;
+        let pairs: Vec<(u16, u16)> = numbers
+            .clone()
+            .flat_map(|giver| numbers.clone().map(move |taker| (giver, taker)))
+            .filter(|(giver, taker)| giver != taker)
+            .collect();
         (0..1u64 << pairs.len()).map(move |chosen| {
             (jobs, (0..pairs.len()).filter(|at| chosen >> at & 1 == 1).map(|at| pairs[at]).collect())
         })
     })
+}
+
+/// How many needs a file of so many jobs has room for, whatever their names: with tag 4, or with tag 6 where that does not reach
+/// all jobs.
+pub fn room_for_needs(jobs: usize) -> usize {
+    let left = LONGEST_FILE - 12 - 17 * jobs;
+    if jobs <= 255 {
+        left / 5
+    } else {
+        left / 7
+    }
 }
 
 fn chain(jobs: usize) -> Vec<(usize, usize)> {
@@ -133,9 +149,9 @@ fn series_parallel_part(
     }
 }
 
-/// Random needs between jobs that stand near each other, or between all.
+/// Random needs between jobs that stand near each other, or between all, as far as there is room.
 fn banded(random: &mut Random, jobs: usize) -> Vec<(usize, usize)> {
-    let reach = if random.percent(15) { jobs } else { random.between(1, 10) };
+    let reach = if random.percent(15) { jobs.min(room_for_needs(jobs) / jobs) } else { random.between(1, 10) };
     let density = random.pick(&[15, 25, 40, 70, 100]);
     let near = |giver: usize| (giver + 1..jobs.min(giver + 1 + reach)).map(move |taker| (giver, taker));
     (0..jobs).flat_map(near).filter(|_| random.percent(density)).collect()
@@ -241,7 +257,7 @@ fn sparse(random: &mut Random, jobs: usize) -> Vec<(usize, usize)> {
 }
 
 /// The numbers as they are, turned round, or in any order; the needs in any order too.
-fn renumbered(random: &mut Random, shape: Shape) -> Shape {
+pub fn renumbered(random: &mut Random, shape: Shape) -> Shape {
     let mut numbers: Vec<usize> = (0..shape.jobs).collect();
     match random.below(5) {
         0 | 1 => (),

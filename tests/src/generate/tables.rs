@@ -35,6 +35,23 @@ pub fn valid(random: &mut Random, file: &JobFile) -> Option<Table> {
     starts.iter().all(|&start| start < usize::MAX).then(|| table_of(file, &starts, &boards))
 }
 
+/// A table that keeps the rules: any, or else the planned one, if there is one, on other boards.
+pub fn valid_or_planned(random: &mut Random, file: &JobFile, planned: &Result<Vec<u8>, u8>) -> Option<Table> {
+    let drawn = valid(random, file);
+    drawn.or_else(|| Some(renamed(random, file, Table::read(planned.as_ref().ok()?)?)))
+}
+
+/// The table with its boards exchanged for any that the file has.
+fn renamed(random: &mut Random, file: &JobFile, mut table: Table) -> Table {
+    let mut boards: Vec<u8> = (1..=file.most_boards()).collect();
+    random.shuffle(&mut boards);
+    for row in &mut table.rows {
+        row.board = boards.get(row.board.wrapping_sub(1) as usize).copied().unwrap_or(row.board);
+    }
+    table.recount();
+    table
+}
+
 /// The table with one rule broken, or nearly so.
 pub fn broken(random: &mut Random, file: &JobFile, table: &Table) -> Vec<u8> {
     let mut table = table.clone();
@@ -48,10 +65,20 @@ pub fn broken(random: &mut Random, file: &JobFile, table: &Table) -> Vec<u8> {
     table.bytes()
 }
 
+/// A row of a table, often the last one.
+fn any_row(random: &mut Random, table: &Table) -> usize {
+    let last = table.rows.len() - 1;
+    if random.percent(20) {
+        last
+    } else {
+        random.between(0, last)
+    }
+}
+
 /// Question 14: fields that are not as they should be.
 fn broken_fields(random: &mut Random, table: &Table) -> Vec<u8> {
     let mut table = table.clone();
-    let row = random.below(table.rows.len());
+    let row = any_row(random, &table);
     match random.below(11) {
         0 => table.rows.truncate(row),
         1 => drop(table.rows.remove(row)),
@@ -77,7 +104,7 @@ fn broken_fields(random: &mut Random, table: &Table) -> Vec<u8> {
 
 /// Question 15: another name or level, or levels from before request 4.
 fn other_jobs(random: &mut Random, file: &JobFile, table: &mut Table) {
-    let (row, other) = (random.below(table.rows.len()), random.below(table.rows.len()));
+    let (row, other) = (any_row(random, table), random.below(table.rows.len()));
     match random.below(7) {
         0 => table.rows[row].level = table.rows[row].level.wrapping_add(random.pick(&[1, -1, 256, 10])),
         1 => table.rows[row].level = table.rows[row].level.wrapping_neg(),
@@ -94,7 +121,7 @@ fn other_jobs(random: &mut Random, file: &JobFile, table: &mut Table) {
 
 /// Question 16: counts that do not fit the rows, or rows beyond limit or boards.
 fn wrong_counts(random: &mut Random, file: &JobFile, table: &mut Table) {
-    let row = random.below(table.rows.len());
+    let row = any_row(random, table);
     match random.below(8) {
         0 => table.slots = table.slots.wrapping_add(random.pick(&[1, 255, 2])),
         1 => table.boards = table.boards.wrapping_add(random.pick(&[1, 255, 2])),
@@ -126,20 +153,21 @@ fn wrong_counts(random: &mut Random, file: &JobFile, table: &mut Table) {
 
 /// Question 17: two jobs in one place.
 fn shared_place(random: &mut Random, table: &mut Table) {
-    let (row, other) = (random.below(table.rows.len()), random.below(table.rows.len()));
+    let (row, other) = (any_row(random, table), random.below(table.rows.len()));
     table.rows[row].start = table.rows[other].start;
     table.rows[row].board = table.rows[other].board;
     table.recount();
 }
 
-/// Question 18: a taker moved close to one of its givers, or two takers both right after it.
+/// Question 18: a taker moved close to one of its givers, or two takers both right after it; or places exchanged, so that no two jobs
+/// share one.
 pub fn broken_need(random: &mut Random, file: &JobFile, table: &mut Table) {
     if file.needs.is_empty() {
         return;
     }
     let (giver, taker) = file.needs[random.below(file.needs.len())];
     let (start, board) = (table.rows[giver].start, table.rows[giver].board);
-    match random.below(5) {
+    match random.below(7) {
         0 => {
             let others = file.needs.iter().filter(|need| need.0 == giver);
             for (at, need) in others.enumerate() {
@@ -149,12 +177,20 @@ pub fn broken_need(random: &mut Random, file: &JobFile, table: &mut Table) {
         }
         1 => table.rows[taker].start = start,
         2 => table.rows[taker].start = start.saturating_sub(1),
+        3 => exchange_places(table, giver, taker),
+        4 => exchange_places(table, taker, random.below(table.rows.len())),
         kind => {
             table.rows[taker].start = start.saturating_add(1);
-            table.rows[taker].board = if kind == 3 { board } else { board % file.most_boards() + 1 };
+            table.rows[taker].board = if kind == 5 { board } else { board % file.most_boards() + 1 };
         }
     }
     table.recount();
+}
+
+fn exchange_places(table: &mut Table, row: usize, other: usize) {
+    let (one, two) = (table.rows[row].clone(), table.rows[other].clone());
+    (table.rows[row].start, table.rows[row].board) = (two.start, two.board);
+    (table.rows[other].start, table.rows[other].board) = (one.start, one.board);
 }
 
 /// Bytes changed, lost or added anywhere.

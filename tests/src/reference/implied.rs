@@ -3,7 +3,7 @@
 
 use super::entries::sound_graph;
 use super::needs::Graph;
-use super::reading::{read, take_field};
+use super::reading::{need_numbers, read, take_field};
 
 /// A need: giver and taker.
 type Need = (usize, usize);
@@ -17,11 +17,12 @@ pub fn implied_needs(file: &[u8]) -> Result<Vec<Need>, u8> {
 /// comes back to the giver.
 fn by_closure(graph: &Graph) -> Vec<Need> {
     let closure = graph.closure();
-    let follows = |giver: usize, taker: usize| graph.takers[giver].iter().any(|&next| closure[next] >> taker & 1 == 1);
+    let follows = |giver: usize, taker: usize| graph.takers[giver].iter().any(|&next| closure[next].has(taker));
     let mut found = Vec::new();
     for giver in 0..graph.jobs() {
-        let takers = (0..graph.jobs()).filter(|taker| graph.takers[giver].contains(taker));
-        found.extend(takers.filter(|&taker| follows(giver, taker)).map(|taker| (giver, taker)));
+        let mut takers = graph.takers[giver].clone();
+        takers.sort();
+        found.extend(takers.into_iter().filter(|&taker| follows(giver, taker)).map(|taker| (giver, taker)));
     }
     found
 }
@@ -49,12 +50,12 @@ fn others(graph: &Graph, need: Need, giver: usize) -> impl Iterator<Item = usize
     graph.takers[giver].iter().copied().filter(move |&taker| (giver, taker) != need)
 }
 
-/// The bytes of a readable file without the fields of these needs.
+/// The bytes of a readable file without the fields, of either tag, of these needs, which are in rising order.
 pub fn struck(file: &[u8], needs: &[Need]) -> Vec<u8> {
     let (mut kept, mut rest) = (Vec::new(), file);
     while let Some((tag, value, behind)) = take_field(rest) {
-        let goes = |&(giver, taker): &Need| tag == 4 && value == [giver as u8 + 1, taker as u8 + 1];
-        if !needs.iter().any(goes) {
+        let need = need_numbers(tag, value).map(|(giver, taker)| (giver - 1, taker - 1));
+        if need.is_none_or(|need| needs.binary_search(&need).is_err()) {
             kept.extend(&rest[..rest.len() - behind.len()]);
         }
         rest = behind;

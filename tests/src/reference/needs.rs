@@ -1,5 +1,7 @@
 //! The needs as a graph: circles (question 11), windows by formulas (1) and (2), width (question 12).
 
+use super::sets::{Set, ALL_WORDS};
+
 /// For each job its givers and its takers.
 pub struct Graph {
     pub givers: Vec<Vec<usize>>,
@@ -10,6 +12,14 @@ pub struct Graph {
 pub struct Windows {
     pub releases: Vec<i32>,
     pub deadlines: Vec<i32>,
+}
+
+/// Where a search depth first has met a job.
+#[derive(Clone, Copy)]
+enum Met {
+    Not,
+    OnTheWay,
+    LeftBehind,
 }
 
 impl Graph {
@@ -28,18 +38,33 @@ impl Graph {
 
     /// Does a chain of needs lead from some job back to it?
     pub fn has_circle(&self) -> bool {
-        self.closure().iter().enumerate().any(|(job, set)| set >> job & 1 == 1)
+        let mut met = vec![Met::Not; self.jobs()];
+        (0..self.jobs()).any(|job| self.comes_back(job, &mut met))
+    }
+
+    /// Does a chain from this job come back to one on the way to it? Depth first, past the jobs that are left behind.
+    fn comes_back(&self, job: usize, met: &mut [Met]) -> bool {
+        match met[job] {
+            Met::OnTheWay => true,
+            Met::LeftBehind => false,
+            Met::Not => {
+                met[job] = Met::OnTheWay;
+                let found = self.takers[job].iter().any(|&taker| self.comes_back(taker, met));
+                met[job] = Met::LeftBehind;
+                found
+            }
+        }
     }
 
     /// For each job those that a chain of needs leads to, by Warshall: after round `middle`, `reach` has the chains
     /// whose inner jobs are at most `middle`.
-    pub fn closure(&self) -> Vec<u64> {
-        let mut reach: Vec<u64> = self.takers.iter().map(|takers| mask(takers)).collect();
+    pub fn closure(&self) -> Vec<Set<ALL_WORDS>> {
+        let mut reach: Vec<Set<ALL_WORDS>> = self.takers.iter().map(|takers| Set::of(takers.iter().copied())).collect();
         for middle in 0..reach.len() {
             let onward = reach[middle];
             for from in &mut reach {
-                if *from >> middle & 1 == 1 {
-                    *from |= onward;
+                if from.has(middle) {
+                    *from = from.or(&onward);
                 }
             }
         }
@@ -88,6 +113,12 @@ impl Graph {
         deadline
     }
 
+    /// The fewest slots that leave no window empty: deadlines move with the bound, and 0 is one.
+    pub fn least_slots(&self) -> i32 {
+        let windows = self.windows(0);
+        (0..self.jobs()).map(|job| windows.releases[job] + 1 - windows.deadlines[job]).max().unwrap_or(1)
+    }
+
     /// The largest number of windows that hold one slot from 0 to limit - 1.
     pub fn width(&self, limit: i32) -> usize {
         let windows = self.windows(limit);
@@ -99,9 +130,4 @@ impl Windows {
     pub fn holds(&self, job: usize, slot: i32) -> bool {
         self.releases[job] <= slot && slot < self.deadlines[job]
     }
-}
-
-/// A set of jobs, one bit each.
-pub fn mask(jobs: &[usize]) -> u64 {
-    jobs.iter().fold(0, |set, job| set | 1 << job)
 }

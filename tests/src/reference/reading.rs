@@ -1,5 +1,7 @@
 //! Reading a job file: questions 2 to 8, 10, and 21.
 
+use std::collections::HashSet;
+
 /// A job as the file has it.
 #[derive(Clone, Debug, PartialEq)]
 pub struct Job {
@@ -18,8 +20,8 @@ pub struct JobFile {
     pub needs: Vec<(usize, usize)>,
 }
 
-pub const LONGEST_FILE: usize = 16_384;
-pub const MOST_JOBS: usize = 64;
+pub const LONGEST_FILE: usize = 49_152;
+pub const MOST_JOBS: usize = 400;
 pub const MOST_BOARDS: u8 = 8;
 
 impl JobFile {
@@ -44,7 +46,7 @@ pub fn read(bytes: &[u8]) -> Result<JobFile, u8> {
     let mut rest = bytes;
     while !rest.is_empty() {
         let (tag, value, behind) = take_field(rest).ok_or(3)?;
-        if !matches!(tag, 1..=5 | 9) {
+        if !matches!(tag, 1..=6 | 9) {
             return Err(4);
         }
         let in_place = match fields {
@@ -59,7 +61,7 @@ pub fn read(bytes: &[u8]) -> Result<JobFile, u8> {
             1 => read_header(value)?,
             2 => file.limit = read_limit(value)?,
             3 => read_job(value, &mut file)?,
-            4 => read_need(value, &mut file)?,
+            4 | 6 => read_need(tag, value, &mut file)?,
             9 => read_boards(value, &mut file)?,
             _ => (),
         }
@@ -69,6 +71,8 @@ pub fn read(bytes: &[u8]) -> Result<JobFile, u8> {
     if fields < 2 || file.jobs.is_empty() {
         return Err(10);
     }
+    let mut pairs = HashSet::new();
+    file.needs.retain(|need| pairs.insert(*need));
     Ok(file)
 }
 
@@ -118,16 +122,24 @@ fn read_job(value: &[u8], file: &mut JobFile) -> Result<(), u8> {
     Ok(())
 }
 
-fn read_need(value: &[u8], file: &mut JobFile) -> Result<(), u8> {
-    let [giver, taker] = value else { return Err(6) };
-    let (giver, taker) = (*giver as usize, *taker as usize);
+fn read_need(tag: u8, value: &[u8], file: &mut JobFile) -> Result<(), u8> {
+    let (giver, taker) = need_numbers(tag, value).ok_or(6)?;
     let known = 1..=file.jobs.len();
     if !known.contains(&giver) || !known.contains(&taker) || giver == taker {
         return Err(8);
     }
-    let need = (giver - 1, taker - 1);
-    if !file.needs.contains(&need) {
-        file.needs.push(need);
-    }
+    file.needs.push((giver - 1, taker - 1));
     Ok(())
+}
+
+/// The numbers of giver and taker in a field: one byte each with tag 4, two with tag 6. None for another tag or length.
+pub fn need_numbers(tag: u8, value: &[u8]) -> Option<(usize, usize)> {
+    match (tag, value) {
+        (4, &[giver, taker]) => Some((giver as usize, taker as usize)),
+        (6, &[giver_low, giver_high, taker_low, taker_high]) => {
+            let number = |low, high| u16::from_le_bytes([low, high]) as usize;
+            Some((number(giver_low, giver_high), number(taker_low, taker_high)))
+        }
+        _ => None,
+    }
 }

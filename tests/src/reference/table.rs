@@ -20,7 +20,7 @@ pub struct Table {
     pub rows: Vec<Row>,
 }
 
-pub const LONGEST_TABLE: usize = 1_222;
+pub const LONGEST_TABLE: usize = 7_606;
 
 /// Millimetres to the nearest centimetre, of two nearest the even one: the first by distance, then even before odd.
 pub fn centimetres(millimetres: i16) -> i16 {
@@ -90,9 +90,8 @@ impl Table {
 
     /// Question 17.
     pub fn places_differ(&self) -> bool {
-        self.rows
-            .iter()
-            .enumerate()
-            .all(|(at, row)| self.rows[..at].iter().all(|other| (row.start, row.board) != (other.start, other.board)))
+        let mut places: Vec<(u8, u8)> = self.rows.iter().map(|row| (row.start, row.board)).collect();
+        places.sort();
+        places.windows(2).all(|pair| pair[0] != pair[1])
     }
 }

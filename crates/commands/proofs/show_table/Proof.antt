@@ -18,9 +18,6 @@ write-all-requires c κs = search needs
 returns : tie.Need-returns
 returns c = inl (omega arith)
 
-buffer-requires : tie.Need-buffer-requires
-buffer-requires c κs = search needs
-
 slice-aggregate-read-argument : tie.Need-slice-aggregate-read-argument
 slice-aggregate-read-argument c = search needs
 
@@ -50,7 +47,6 @@ show-table-spec =
     slice-aggregate-write-all
     write-all-requires
     returns
-    buffer-requires
     slice-aggregate-read-argument
     read-argument-requires
     returns-2

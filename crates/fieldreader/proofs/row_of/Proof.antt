@@ -53,8 +53,17 @@ array-copy-out-result-6 c = search needs
 returns-6 : tie.Need-returns-6
 unfolding knownTag fieldRow firstRow fieldRows any choose
 returns-6 c =
+    record { own = λ _. sym (c .before .if6 .taken); known = tt; least-is = refl; greatest-is = refl }
+
+array-copy-out-result-7 : tie.Need-array-copy-out-result-7
+array-copy-out-result-7 c = search needs
+
+returns-7 : tie.Need-returns-7
+unfolding knownTag fieldRow firstRow fieldRows any choose
+returns-7 c =
     let d = c .before .before .before in
-    let own = last-tag _ (d .before .before .if1 .left) (d .before .if2 .left) (d .if3 .left) (c .before .before .if4 .left) (c .before .if5 .left) in
+    let e = d .before .before in
+    let own = last-tag _ (e .before .if1 .left) (e .if2 .left) (d .before .if3 .left) (d .if4 .left) (c .before .before .if5 .left) (c .before .if6 .left) in
     record { own = own; known = tt; least-is = refl; greatest-is = refl }
 
 pub row-of-spec : {M : Type 1} → statement M
@@ -72,4 +81,6 @@ row-of-spec =
     array-copy-out-result-5
     returns-5
     array-copy-out-result-6
-    returns-6)
+    returns-6
+    array-copy-out-result-7
+    returns-7)

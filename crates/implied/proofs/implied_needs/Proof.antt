@@ -1,161 +1,140 @@
 -- `implied::implied_needs` meets its contract. Assumes nothing.
-use mathlib.Core.Path.{_≡_, refl}
-use mathlib.Core.List.{List}
+use mathlib.Core.Path.{refl}
 use Prim.Native.Nat.{ℕ}
 use native.Mathlib.Omega.{arith}
 use borrow.Author.Needs.{needs}
 use borrow.Author.Tests.{not-true, not-false}
-use lib.ListN.{length, replicate, length-replicate}
-use Rattle.jobset.specs.Arrays.{giversIn, takersIn}
-use Rattle.windows.specs.Windows.{table, levelSet}
-use Rattle.implied.specs.Reach.{reachEach, fromTop}
-use Rattle.implied.specs.Answer.{no-room, file-refused, FileRead, jobs-few, sets-long, LevelsAre, NoCircle, circle, rows-fit, all-listed}
+use lib.ListN.{length-replicate}
+use Rattle.laws.specs.Lists.{zeros-at}
+use Rattle.implied.specs.Answer.{no-room, file-refused, FileRead, of-needs, PeeledSo, NoCircle, BeyondFilled, circle, order-of}
+use Rattle.implied.specs.Answer.{rows-there, rows-fit, all-listed}
 use Rattle.implied.proofs.implied_needs.Statement.{statement}
 use Rattle.implied.proofs.implied_needs.Tie as tie
 
 -- ---- the way back, from landmark to landmark
 
--- from the reader's answer to the start
-abbrev to-start : tie.After-read-file → tie.Start
-to-start c = c .before .before .before .before .before .before
+-- from the reader's yes to the start
+abbrev to-start : tie.Else2 → tie.Start
+to-start c = c .before .before .before .before .before .before .before .before
 
--- from the levels to the reader's yes
-abbrev to-file : tie.After-levels → tie.Else2
-to-file c = c .before .before .before
+-- from the circle test to the reader's yes
+abbrev to-file : tie.After-peel → tie.Else2
+to-file c = c .before .before .before .before
 
--- from the levels by level to the circle test
-abbrev to-circle : tie.After-by-level → tie.Else3
-to-circle c = c .before .before .before
-
--- from what the jobs reach to the levels by level
-abbrev to-levels : tie.After-reached → tie.After-by-level
-to-levels c = c .before .before .before .before
+-- from the rows beyond to the circle test
+abbrev to-circle : tie.After-add-rows → tie.Else3
+to-circle c = c .before .before .before .before
 
 -- ---- what is known on the way
 
--- the tables that the reader leaves are 260 sets
-abbrev tables : (c : tie.After-read-file) → List ℕ
-tables c = c .read-file .last .1 .1 .0
-
-long : (c : tie.After-read-file) → length (tables c) ≡ 260
-long c = c .read-file .ensures .1
-
 -- the file is read
-is-read : (c : tie.Else2) → let a = to-start (c .before) .args in let r = c .before .read-file in
-    FileRead (a .file .now) (a .list .now) (r .result) (r .last .1 .0) (giversIn (tables (c .before))) (takersIn (tables (c .before)))
+is-read : (c : tie.Else2) → let a = to-start c .args in let r = c .before .before .read-file in
+    FileRead (a .file .now) (a .list .now) (r .result) (r .last .1 .0) (r .last .1 .1 .0)
 is-read c = record {
   room = omega arith;
-  bytes = λ i. omega (arith, c .before .before .before .before .before .before .shared-slice-known .given i);
-  reads = c .before .read-file .ensures .0;
+  bytes = λ i. omega (arith, c .before .before .before .before .before .before .before .shared-slice-known .given i);
+  reads = c .before .before .read-file .ensures .0;
+  rows-room = omega (arith, c .before .before .read-file .ensures .1, length-replicate {A = ℕ} 22400 0);
   ok = c .if2 .left;
 }
 
--- the levels are those of its needs
-levels-are : (c : tie.After-levels) → LevelsAre (is-read (to-file c)) (c .levels .result)
-levels-are c = c .levels .ensures
+-- its jobs are peeled
+peeled : (c : tie.After-peel) → let r = c .peel in PeeledSo (is-read (to-file c)) (r .result) (r .last .1 .1 .0) (r .last .1 .1 .1 .0)
+peeled c = c .peel .ensures
 
 -- there is no circle
-no-circle : (c : tie.Else3) → let e = c .before .before in NoCircle (is-read (to-file e)) (e .levels .result)
-no-circle c = record { levels-are = levels-are (c .before .before); ok = not-false _ (c .if3 .left) }
+no-circle : (c : tie.Else3) → NoCircle (is-read (to-file (c .before))) (c .before .peel .last .1 .1 .0)
+no-circle c = record {
+  ok = c .before .peel .result;
+  dates = c .before .peel .last .1 .1 .1 .0;
+  peeled = peeled (c .before);
+  free = not-false _ (c .if3 .left);
+}
 
--- what each job reaches, by the levels that the circle test gave
-reach-is : (c : tie.After-reached) →
-    let e = to-circle (to-levels c) .before .before in
-    let r = to-file e .before in
-    let l = table (levelSet (e .levels .result .level) (r .read-file .result .jobs)) in
-    c .reached .result ≡ reachEach (takersIn (tables r)) (fromTop l 66) (replicate 64 0)
-reach-is c = rw (to-levels c .by-level .ensures) at (c .reached .ensures)
+-- the rows of the jobs beyond each are filled
+filled : (c : tie.After-add-rows) → BeyondFilled (is-read (to-file (to-circle c .before))) (c .add-rows .last .1 .1 .1 .0)
+filled c = record {
+  beyond-are = c .add-rows .ensures .0;
+  beyond-room = omega (arith, c .add-rows .ensures .1, length-replicate {A = ℕ} 22400 0);
+}
 
 -- ---- the needs
 
 returns : tie.Need-returns
 returns c = let a = c .before .before .before .args in no-room (a .file .now) (a .list .now) (omega arith)
 
+slice-aggregate-read-file : tie.Need-slice-aggregate-read-file
+slice-aggregate-read-file c = search needs
+
 read-file-requires : tie.Need-read-file-requires
-read-file-requires c κs = (length-replicate {A = ℕ} 64 0, refl)
+read-file-requires c κs = (length-replicate {A = ℕ} 400 0, omega (arith, length-replicate {A = ℕ} 22400 0))
 
 returns-2 : tie.Need-returns-2
 returns-2 c =
-    let a = to-start (c .before) .args in
-    file-refused (a .file .now) (a .list .now) (omega arith) _ _ _ _ (c .before .read-file .ensures .0) (c .if2 .taken)
+    let r = c .before .before in
+    let a = r .before .before .before .before .before .before .args in
+    file-refused (a .file .now) (a .list .now) (omega arith) _ _ _ (r .read-file .ensures .0) (c .if2 .taken)
 
-sub-levels : tie.Need-sub-levels
-sub-levels c = search needs
+slice-aggregate-peel : tie.Need-slice-aggregate-peel
+slice-aggregate-peel c = search needs
 
-part-levels-start : tie.Need-part-levels-start
-part-levels-start c = search needs
-
-part-levels-end : tie.Need-part-levels-end
-part-levels-end c = omega (arith, long (c .before .before))
-
-levels-requires : tie.Need-levels-requires
-levels-requires c κs = let r = is-read (c .before .before) in (jobs-few r, omega (arith, sets-long r .0))
+peel-requires : tie.Need-peel-requires
+peel-requires c κs = (of-needs (is-read (c .before .before .before)), length-replicate {A = ℕ} 400 0, refl)
 
 returns-3 : tie.Need-returns-3
-returns-3 c = let e = c .before .before in circle (is-read (to-file e)) (levels-are e) (not-true _ (c .if3 .taken))
+returns-3 c = circle (is-read (to-file (c .before))) (peeled (c .before)) (not-true _ (c .if3 .taken))
 
-by-level-requires : tie.Need-by-level-requires
-by-level-requires c κs = jobs-few (is-read (to-file (c .before .before .before .before)))
+slice-aggregate-add-rows : tie.Need-slice-aggregate-add-rows
+slice-aggregate-add-rows c = search needs
 
-sub-reached : tie.Need-sub-reached
-sub-reached c = search needs
+slice-aggregate-add-rows-2 : tie.Need-slice-aggregate-add-rows-2
+slice-aggregate-add-rows-2 c = search needs
 
-part-reached-start : tie.Need-part-reached-start
-part-reached-start c = search needs
+add-rows-requires : tie.Need-add-rows-requires
+add-rows-requires c κs =
+    let e = c .before .before .before in
+    let w = order-of (is-read (to-file (e .before))) (no-circle e) in
+    (w, omega (arith, w .of-needs .jobs-few, length-replicate {A = ℕ} 22400 0), zeros-at 22400)
 
-part-reached-end : tie.Need-part-reached-end
-part-reached-end c = let e = to-circle (c .before) .before .before in omega (arith, long (to-file e .before))
+slice-aggregate-put-rows : tie.Need-slice-aggregate-put-rows
+slice-aggregate-put-rows c = search needs
 
-reached-requires : tie.Need-reached-requires
-reached-requires c κs =
-    let e = to-circle (c .before .before .before) .before .before in omega (arith, sets-long (is-read (to-file e)) .1)
-
-sub-put-rows : tie.Need-sub-put-rows
-sub-put-rows c = search needs
-
-part-put-rows-start : tie.Need-part-put-rows-start
-part-put-rows-start c = search needs
-
-part-put-rows-end : tie.Need-part-put-rows-end
-part-put-rows-end c = let e = to-circle (to-levels (c .before)) .before .before in omega (arith, long (to-file e .before))
+slice-aggregate-put-rows-2 : tie.Need-slice-aggregate-put-rows-2
+slice-aggregate-put-rows-2 c = search needs
 
 put-rows-requires : tie.Need-put-rows-requires
 put-rows-requires c κs =
-    let s = c .before .before .before .before in
-    let e = to-circle (to-levels s) in
-    let r = is-read (to-file (e .before .before)) in
-    (jobs-few r, omega (arith, sets-long r .1), rw (reach-is s) (rows-fit r (no-circle e)))
+    let d = c .before .before .before .before in
+    let e = to-circle d in
+    let r = is-read (to-file (e .before)) in
+    (rows-there r (no-circle e) (filled d), rows-fit r (no-circle e) (filled d))
 
 same-length : tie.Need-same-length
 same-length c = search needs
 
 returns-4 : tie.Need-returns-4
 returns-4 c =
-    let s = c .before .before .before .before .before .before .before in
+    let d = c .before .before .before .before .before .before .before in
+    let e = to-circle d in
     let p = c .before .before .put-rows in
-    let e = to-circle (to-levels s) in
-    rw (p .ensures .0, p .ensures .1, reach-is s) (all-listed (is-read (to-file (e .before .before))) (no-circle e))
+    rw (p .ensures .0, p .ensures .1) (all-listed (is-read (to-file (e .before))) (no-circle e) (filled d))
 
 pub implied-needs-spec : {M : Type 1} → statement M
 implied-needs-spec =
     tie.close
     (tie.spec
     returns
+    slice-aggregate-read-file
     read-file-requires
     returns-2
-    sub-levels
-    part-levels-start
-    part-levels-end
-    levels-requires
+    slice-aggregate-peel
+    peel-requires
     returns-3
-    by-level-requires
-    sub-reached
-    part-reached-start
-    part-reached-end
-    reached-requires
-    sub-put-rows
-    part-put-rows-start
-    part-put-rows-end
+    slice-aggregate-add-rows
+    slice-aggregate-add-rows-2
+    add-rows-requires
+    slice-aggregate-put-rows
+    slice-aggregate-put-rows-2
     put-rows-requires
     same-length
     returns-4)

@@ -1,75 +1,101 @@
--- `implied::put_row` meets its contract. The pairs of the takers from k up are still to come, from entry `next` on. Assumes nothing.
-use mathlib.Core.Path.{_≡_, refl, sym, _∙_}
-use mathlib.Core.Bool.{true}
-use Prim.Native.Nat.{_+_, _-_, _≤_}
+-- `implied::put_row` meets its contract: before each turn the pairs of the takers from word w on are to come. Assumes nothing.
+use mathlib.Core.Path.{_≡_}
+use mathlib.Core.List.{List}
+use Prim.Native.Nat.{ℕ, _+_, _-_, _*_, _≤_, _<_}
 use native.Mathlib.Omega.{arith}
-use lib.ListN.{length}
-use Rattle.rules.specs.Basics.{choose}
-use Rattle.rules.specs.Implied.{pairNumbers}
-use Rattle.laws.specs.Writing.{WrittenSoFar, so-far-start, so-far-room, so-far-put, so-far-skip, so-far-size, so-far-end}
-use Rattle.jobset.specs.Sets.{member}
-use Rattle.implied.specs.Listing.{pairIn}
+use Rattle.jobset.specs.declared.Set.{Set}
+use Rattle.needrows.specs.Rows.{wordBits, wordsFor}
+use Rattle.releases.specs.Peels.{numbered}
+use Rattle.implied.specs.Listing.{pairsOf, bothAt, rowFrom}
+use Rattle.implied.specs.Writing.{ToCome, come-start, come-room, come-put, come-size, come-end}
+use Rattle.implied.specs.ListingLaws.{both-few, follows-turn, follows-end}
 use Rattle.implied.proofs.put_row.Statement.{statement}
 use Rattle.implied.proofs.put_row.Tie as tie
 
 abbrev Inv-loop : tie.InvT-loop
-Inv-loop giver takers jobs list₀ first next₀ k₀ list next k = WrittenSoFar (pairIn giver takers) jobs first list₀ k next list
+Inv-loop takers beyond jobs giver list₀ at next₀ w₀ list next w =
+    (w ≤ wordsFor jobs) × ToCome at (rowFrom takers beyond jobs giver 0) list₀ next (rowFrom takers beyond jobs giver w) list
 
 abbrev μ-loop : tie.MeasureT-loop
-μ-loop giver takers jobs list₀ first next₀ k₀ list next k = jobs - k
+μ-loop takers beyond jobs giver list₀ at next₀ w₀ list next w = wordsFor jobs - w
 
--- job k is a taker
-taken : (c : tie.Then1 Inv-loop μ-loop) → member (c .before .before .before .before .before .args .takers) (63 - c .before .before .before .loop .k) ≡ true
-taken c = sym (c .before .has .ensures) ∙ c .if1 .taken
+-- the way back: to the test of a turn, and to the start
+abbrev turn-of : tie.After-intersection Inv-loop μ-loop → tie.Then1 Inv-loop μ-loop
+turn-of c = c .before .before .before
 
--- so there is room for a pair
-room : (c : tie.Then1 Inv-loop μ-loop) → c .before .before .before .loop .next + 2 ≤ length (c .before .before .before .loop .list)
-unfolding choose pairNumbers
-room c =
-    let s = c .before .before .before .loop .inv in
-    rw (taken c) at (so-far-room s (c .before .before .loop-test .taken) (c .before .before .before .before .before .pre .2))
+abbrev start : tie.At-loop Inv-loop μ-loop → tie.Start Inv-loop μ-loop
+start c = c .before .before .before .before
+
+-- a turn: its word, the takers in it that are listed, their pairs, and what comes behind
+abbrev word-of : tie.Then1 Inv-loop μ-loop → ℕ
+word-of c = c .before .before .loop .w
+
+abbrev both-of : tie.Then1 Inv-loop μ-loop → Set
+both-of c = let a = start (c .before .before) .args in bothAt (a .takers .now) (a .beyond .now) (a .giver) (word-of c)
+
+abbrev pairs : tie.Then1 Inv-loop μ-loop → List ℕ
+pairs c = pairsOf (start (c .before .before) .args .giver) (numbered (wordBits * word-of c) (both-of c))
+
+abbrev behind : tie.Then1 Inv-loop μ-loop → List ℕ
+behind c = let a = start (c .before .before) .args in rowFrom (a .takers .now) (a .beyond .now) (a .jobs) (a .giver) (word-of c + 1)
+
+-- there is a word
+inside : (c : tie.Then1 Inv-loop μ-loop) → word-of c < wordsFor (start (c .before .before) .args .jobs)
+inside c = omega (arith, c .before .words .ensures, c .if1 .taken)
+
+both-is : (c : tie.After-intersection Inv-loop μ-loop) → c .intersection .result ≡ both-of (turn-of c)
+both-is c = rw (← (c .before .before .word .ensures), ← (c .before .word2 .ensures)) (c .intersection .ensures)
 
 loop-holds : tie.Need-loop-holds Inv-loop μ-loop
-loop-holds c = let a = c .before .args in so-far-start (pairIn (a .giver) (a .takers)) (a .jobs) (a .first) (a .list .now)
+loop-holds c = (omega arith, come-start _ _ _)
 
-add-k : tie.Need-add-k Inv-loop μ-loop
-add-k c = omega arith
+words-requires : tie.Need-words-requires Inv-loop μ-loop
+words-requires c κs = omega (arith, start c .pre .0 .rows-of .jobs-few)
 
-sub-has : tie.Need-sub-has Inv-loop μ-loop
-sub-has c = omega arith
+word-requires : tie.Need-word-requires Inv-loop μ-loop
+word-requires c κs = let p = start (c .before .before) .pre in omega (arith, inside c, p .1, p .0 .rows-of .jobs-few, p .0 .rows-of .rows-fit)
 
-has-requires : tie.Need-has-requires Inv-loop μ-loop
-has-requires c κs = omega arith
+word-requires-2 : tie.Need-word-requires-2 Inv-loop μ-loop
+word-requires-2 c κs = let p = start (c .before .before .before) .pre in omega (arith, inside (c .before), p .1, p .0 .rows-of .jobs-few, p .0 .room)
 
-put-pair-requires : tie.Need-put-pair-requires Inv-loop μ-loop
-put-pair-requires c κs = (omega arith, omega arith, room (c .before))
+intersection-requires : tie.Need-intersection-requires Inv-loop μ-loop
+intersection-requires c κs = tt
 
-add-next : tie.Need-add-next Inv-loop μ-loop
-add-next c = let h = room (c .before .before .before .before) in omega arith
+mul-put-word : tie.Need-mul-put-word Inv-loop μ-loop
+mul-put-word c = omega (arith, inside (turn-of c), start (turn-of c .before .before) .pre .0 .rows-of .jobs-few)
+
+put-word-requires : tie.Need-put-word-requires Inv-loop μ-loop
+put-word-requires c κs =
+    let d = turn-of (c .before) in
+    let p = start (d .before .before) .pre in
+    rw (both-is (c .before)) (
+      omega (arith, p .1, p .0 .rows-of .jobs-few),
+      both-few _ _ _ _ _ (p .0) (p .1) (inside d),
+      come-room (d .before .before .loop .inv .1) (pairs d) (behind d) (follows-turn _ _ _ _ _ (inside d)) (p .2),
+    )
+
+add-w : tie.Need-add-w Inv-loop μ-loop
+add-w c = let d = turn-of (c .before .before .before .before) in omega (arith, inside d, start (d .before .before) .pre .0 .rows-of .jobs-few)
 
 loop-less : tie.Need-loop-less Inv-loop μ-loop
-loop-less c = omega arith
+loop-less c = omega (arith, inside (turn-of (c .before .before .before .before)))
 
 loop-again : tie.Need-loop-again Inv-loop μ-loop
-unfolding choose pairNumbers
 loop-again c =
-    let s = c .before .before .before .before .before .before .before .loop .inv in
-    let m = taken (c .before .before .before .before) in
-    so-far-put s (c .before .before .before .before .before .before .loop-test .taken) _ _ (rw m refl) (rw m (c .before .before .put-pair .ensures))
-
-loop-less-2 : tie.Need-loop-less-2 Inv-loop μ-loop
-loop-less-2 c = omega arith
-
-loop-again-2 : tie.Need-loop-again-2 Inv-loop μ-loop
-unfolding choose
-loop-again-2 c =
-    so-far-skip (c .before .before .before .loop .inv) (c .before .before .loop-test .taken) (rw (sym (c .before .has .ensures) ∙ c .if1 .left) refl)
+    let d = turn-of (c .before .before .before .before) in
+    let h = inside d in
+    let e = rw (both-is (c .before .before .before .before)) at (c .before .before .put-word .ensures) in
+    (omega arith, come-put (d .before .before .loop .inv .1) (pairs d) (behind d) (follows-turn _ _ _ _ _ h) _ _ (e .0) (e .1))
 
 same-length : tie.Need-same-length Inv-loop μ-loop
-same-length c = c .before .loop .inv .size
+same-length c = c .before .before .loop .inv .1 .size
 
 returns : tie.Need-returns Inv-loop μ-loop
-returns c = (so-far-size (c .before .loop .inv) (omega arith), so-far-end (c .before .loop .inv) (omega arith))
+returns c =
+    let w = c .before .before .loop .inv .1 in
+    let e : wordsFor (start (c .before .before) .args .jobs) ≤ c .before .before .loop .w = omega (arith, c .before .words .ensures, c .if1 .left) in
+    let z = follows-end _ _ _ _ _ e in
+    (come-size w z, come-end w z)
 
 pub put-row-spec : {M : Type 1} → statement M
 put-row-spec =
@@ -78,14 +104,14 @@ put-row-spec =
     Inv-loop
     μ-loop
     loop-holds
-    add-k
-    sub-has
-    has-requires
-    put-pair-requires
-    add-next
+    words-requires
+    word-requires
+    word-requires-2
+    intersection-requires
+    mul-put-word
+    put-word-requires
+    add-w
     loop-less
     loop-again
-    loop-less-2
-    loop-again-2
     same-length
     returns)

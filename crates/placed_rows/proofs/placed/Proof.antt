@@ -33,7 +33,7 @@ use denote.Plain.{uint-vals, uint-tells, uint-lawful, uint-makes}
 use denote.Array.{Array, array-vals, array-tells, array-lawful, array-makes}
 use denote.ArrayMemory.{array-apart, array-whole}
 use denote.Memory.{cellAt, partAt, partOf, pointee, mem, shares, share-laws}
-use denote.Builtin.{u64, usize}
+use denote.Builtin.{u8, u16, usize}
 use denote.Ref.{RefT, ShrRef, ptr-vals, shr-tells}
 use denote.Slice.{MutSlice, slice-vals, sliceTy, sliceVal, Room, finally}
 use denote.Lend.{Held, lends-slice, slice-back}
@@ -50,14 +50,16 @@ use denote.Triple.Entry.{onEntry}
 use denote.Triple.Spec.{Meets, tripleOf}
 use denote.Triple.Table.{entered, cited}
 use denote.Triple.Walked.{needs, says, Stays, stay-dropped, goes-dropped, walkOf, Walks, ends-at, walked, walk-meets}
-use Rattle.boards.specs.Rows.{RowsStartable, RowsPlaced, placeRows}
-use Rattle.boards.specs.declared.JobRecord.{JobRecord}
-use Rattle.boards.proofs.JobRecord as T
-use Rattle.boards.proofs.JobRecord.Laws as T′
-use Rattle.boards.proofs.place_rows as pr
-use Rattle.boards.proofs.place_rows.Symbol as pr-def
-use Rattle.boards.proofs.place_rows.Symbol.{name as #boards·place-rows}
-use Rattle.boards.proofs.place_rows.Met as pr-thm
+use Rattle.layout.specs.Layout.{tableWords}
+use Rattle.slotboards.specs.Rows.{RowsPlaced, RowsSeated, RowsBoarded}
+use Rattle.slotboards.specs.declared.JobRecord.{JobRecord}
+use Rattle.placed_rows.specs.Seats.{RowsRuled}
+use Rattle.slotboards.proofs.JobRecord as T
+use Rattle.slotboards.proofs.JobRecord.Laws as T′
+use Rattle.slotboards.proofs.place_rows as pr
+use Rattle.slotboards.proofs.place_rows.Symbol as pr-def
+use Rattle.slotboards.proofs.place_rows.Symbol.{name as #slotboards·place-rows}
+use Rattle.slotboards.proofs.place_rows.Met as pr-thm
 use Rattle.placed_rows.proofs.placed as pl
 use Rattle.placed_rows.proofs.placed.Key.{name as #placed-rows·placed}
 use Rattle.placed_rows.proofs.placed.Statement as stated
@@ -66,12 +68,15 @@ use Rattle.placed_rows.proofs.placed.Code.Mir as mir′
 
 -- ---- the row as one value, and as elements in memory
 
--- the type of the row, and of the tables
+-- the type of the row, of the tables and of the places
 abbrev Row : RattleType
 Row = Array T.the-row 8
 
-abbrev Sets : RattleType
-Sets = Array u64 260
+abbrev Words : RattleType
+Words = Array u16 tableWords
+
+abbrev Bytes : RattleType
+Bytes = Array u8 400
 
 -- the types of the row and of the slice that is lent of it, spelled as the function's code spells them
 abbrev rowTy : Ty
@@ -133,52 +138,64 @@ module _ {M : Type 1} (𝓤 : URA M) (H : Heap 𝓤) (A : Atoms 𝓤) (W : Given
       peeks ! Row (Is Row) (shows 𝓤 H A Row) ys (row-vals ys) (λ is. drop ! $
       use1 W (‵ (fat fullShare rowTy b o (mach ys))) (W .laws .raw-at fullShare rowTy b o (mach ys)) $ check ! is $ done !))
 
--- ---- what the function is passed: the row, tables g and slots, with what is required of them
+-- ---- what the function is passed: the row, tables g, places v and slots, with what is required of them
 record Setting : Type 0 where
   κ : Lft
   q : Share
+  κ′ : Lft
+  q′ : Share
   ys : List JobRecord
   g : RefT (List ℕ)
+  v : RefT (List ℕ)
   slots : ℕ
   is : Is Row ys (row-vals ys)
   slots-fits : slots < 2 ^ 64
-  ok : RowsStartable ys slots
+  ok : RowsSeated ys (g .now) (v .now) slots
 
 -- the parameters, of which nothing is kept at exit
-abbrev rows-slot : Slot 1
+abbrev rows-slot : Slot 2
 rows-slot = arrayOf (plain (λ _. T.the-row)) 8
 
-abbrev tables-slot : Slot 1
-tables-slot = shrRefTo (0 ∷ []) tt (arrayOf (plain (λ _. u64)) 260)
+abbrev tables-slot : Slot 2
+tables-slot = shrRefTo (0 ∷ []) tt (arrayOf (plain (λ _. u16)) tableWords)
 
-abbrev slots-slot : Slot 1
+abbrev places-slot : Slot 2
+places-slot = shrRefTo (1 ∷ []) tt (arrayOf (plain (λ _. u8)) 400)
+
+abbrev slots-slot : Slot 2
 slots-slot = plain (λ _. usize)
 
 abbrev stayed : Stays (pl.ended .signature .params) (pl.ended .kept)
-stayed = (stay-dropped rows-slot kept, (stay-dropped tables-slot kept, (stay-dropped slots-slot kept, tt)))
+stayed = (stay-dropped rows-slot kept, (stay-dropped tables-slot kept, (stay-dropped places-slot kept, (stay-dropped slots-slot kept, tt))))
 
-module _ {M : Type 1} (𝓤 : URA M) (H : Heap 𝓤) (A : Atoms 𝓤) (W : Given 𝓤 H A) (mem″ : Memory → SProp 𝓤) (run : Routine → Fun 𝓤)
-    (p : Setting) where
-  open Setting p using (κ, q, ys, g, slots, is, slots-fits, ok)
+module _ {M : Type 1} (𝓤 : URA M) (H : Heap 𝓤) (A : Atoms 𝓤) (W : Given 𝓤 H A) (mem″ : Memory → SProp 𝓤) (run : Routine → Fun 𝓤) (p : Setting) where
+  open Setting p using (κ, q, κ′, q′, ys, g, v, slots, is, slots-fits, ok)
 
   -- the row has eight records
   eight : length ys ≡ 8
   eight = is .1 .0 .1
 
-  -- the pointer to the tables
+  -- the pointers to the tables and to the places
   abbrev pg : Val
   pg = vptr (g .ptr .0) (g .ptr .1)
 
-  -- what the function is called with, and the same as machine values
-  abbrev a : List JobRecord × (RefT (List ℕ) × (ℕ × Unit {0}))
-  a = (ys, (g, (slots, tt)))
+  abbrev pv : Val
+  pv = vptr (v .ptr .0) (v .ptr .1)
 
-  abbrev vals : List Val × (List Val × (List Val × Unit {0}))
-  vals = (row-vals ys, (pg ∷ [], (vint w64 slots ∷ [], tt)))
+  -- what the function is called with, and the same as machine values
+  abbrev a : List JobRecord × (RefT (List ℕ) × (RefT (List ℕ) × (ℕ × Unit {0})))
+  a = (ys, (g, (v, (slots, tt))))
+
+  abbrev vals : List Val × (List Val × (List Val × (List Val × Unit {0})))
+  vals = (row-vals ys, (pg ∷ [], (pv ∷ [], (vint w64 slots ∷ [], tt))))
+
+  -- the tokens of the two references
+  abbrev Tokens : Item 𝓤
+  Tokens = ‵ (flft κ q) ⊛ (‵ (flft κ′ q′) ⊛ ‵ ftrue)
 
   -- what must hold of its result
   abbrev Post : Val → SProp 𝓤
-  Post = walkOf 𝓤 H A pl.ended stayed (pl.clauses 𝓤 H A mem″ run) .post (((κ, tt), (q, tt), tt, a, vals), tt)
+  Post = walkOf 𝓤 H A pl.ended stayed (pl.clauses 𝓤 H A mem″ run) .post (((κ, (κ′, tt)), (q, (q′, tt)), tt, a, vals), tt)
 
   -- ---- the call: the row lies at (b, 0), and is lent for the lifetime α under the name γ
   abbrev PlaceRows : Contract 𝓤
@@ -190,99 +207,129 @@ module _ {M : Type 1} (𝓤 : URA M) (H : Heap 𝓤) (A : Atoms 𝓤) (W : Given
     s = record { ptr = (b, 0); name = γ; now = ys }
 
     abbrev to-rows : PlaceRows .Ghost
-    to-rows = (((α ∷ [], (κ, tt)), (fullShare, (q, tt)), tt, (s, (g, (slots, tt))), (slice-vals s, (ptr-vals g, (vint w64 slots ∷ [], tt)))), tt)
+    to-rows = (
+      (
+        (α ∷ [], (κ, (κ′, tt))),
+        (fullShare, (q, (q′, tt))),
+        tt,
+        (s, (g, (v, (slots, tt)))),
+        (slice-vals s, (ptr-vals g, (ptr-vals v, (vint w64 slots ∷ [], tt)))),
+      ),
+      tt,
+    )
 
-    -- the tokens, the slice, and what tables owns
+    -- the tokens, the slice, and what tables and places own
     abbrev Handed : List (Item 𝓤)
-    Handed = (‵ (flft (α ∷ []) fullShare) ⊛ (‵ (flft κ q) ⊛ ‵ ftrue)) ∷ ‵ (MutSlice (named 0) (α ∷ []) T.the-row .own s (slice-vals s))
-        ∷ ‵ (ShrRef (named 1) κ Sets .own g (ptr-vals g)) ∷ []
+    Handed = (‵ (flft (α ∷ []) fullShare) ⊛ Tokens) ∷ ‵ (MutSlice (named 0) (α ∷ []) T.the-row .own s (slice-vals s))
+        ∷ (‵ (ShrRef (named 1) κ Words .own g (ptr-vals g)) ⊛ ‵ (ShrRef (named 2) κ′ Bytes .own v (ptr-vals v))) ∷ []
 
     -- they are what it asks for
     goes : ent 𝓤 (⋆ 𝓤 H A Handed) (PlaceRows .pre to-rows)
     goes =
         qed W Handed ∵ says ! ok $ frame ! $ nothing ! $ owned ! usize (Is usize) (uint-makes 𝓤 H A W w64) slots _ (refl, slots-fits) $ fjoin ! $
-        move ! (2 ∷ 0 ∷ []) $ fjoin ! $ move ! (1 ∷ 0 ∷ []) $ fjoin ! $ done !
+        move ! (2 ∷ []) $ split ! $ move ! (1 ∷ 2 ∷ 0 ∷ []) $ fjoin ! $ move ! (1 ∷ 0 ∷ []) $ fjoin ! $ move ! (1 ∷ 0 ∷ []) $ fjoin ! $ done !
 
     -- the row's last list, and what is said of it and of the count r
     abbrev Said : ℕ → List JobRecord → Type 0
-    Said r zs = _≡_ {A = RowsPlaced} (record { count = r; rows = zs }) (placeRows (g .now) slots ys)
+    Said r zs = RowsBoarded ys (g .now) (v .now) slots (record { count = r; rows = zs })
 
     abbrev Last : ℕ → List JobRecord → Item 𝓤
     Last r zs = raw (fact 𝓤 (Said r zs)) ⊛ ‵ (finally T.the-row γ zs)
 
     abbrev Ensured : ℕ → SProp 𝓤
-    Ensured r = ensured 𝓤 H A pr.ended (pr.clauses 𝓤 H A mem″ run) (α ∷ [], (κ, tt)) (s, (g, (slots, tt))) tt r
+    Ensured r = ensured 𝓤 H A pr.ended (pr.clauses 𝓤 H A mem″ run) (α ∷ [], (κ, (κ′, tt))) (s, (g, (v, (slots, tt)))) tt r
 
     got : (r : ℕ) → ent 𝓤 (Ensured r) (mean 𝓤 H A (some (Last r)))
     got r = exE 𝓤 _ (λ ws.
-        qed W (‵ (lasts pr.ended (α ∷ [], (κ, tt)) (s, (g, (slots, tt))) ws) ∷ raw (fact 𝓤 (Said r (ws .0))) ∷ []) ∵
+        qed W (‵ (lasts pr.ended (α ∷ [], (κ, (κ′, tt))) (s, (g, (v, (slots, tt)))) ws) ∷ raw (fact 𝓤 (Said r (ws .0))) ∷ []) ∵
         fsplit ! $ fsplit ! $ keep ! (3 ∷ 0 ∷ []) $ show ! (λ (zs : List JobRecord). mean 𝓤 H A (Last r zs)) (ws .0) $ done !)
 
+  -- the records are those of the rules
+  ruled : (r : ℕ) (zs : List JobRecord) → RowsBoarded ys (g .now) (v .now) slots (record { count = r; rows = zs }) → RowsRuled ys (g .now) (v .now) slots zs
+  ruled r zs e = record { rows-are = λ ns h. ap (λ (x : RowsPlaced). x .rows) (e .rows-are ns h) }
+
   -- the row is the function's own again, with the boards in it
-  exits : (zs : List JobRecord) → zs ≡ placeRows (g .now) slots ys .rows → Is Row zs (row-vals zs)
-      → ent 𝓤 (⋆ 𝓤 H A ((‵ (flft κ q) ⊛ ‵ ftrue) ∷ [])) (Post (mach zs))
+  exits : (zs : List JobRecord) → RowsRuled ys (g .now) (v .now) slots zs → Is Row zs (row-vals zs) → ent 𝓤 (⋆ 𝓤 H A (Tokens ∷ [])) (Post (mach zs))
   exits zs e isz =
-      qed W ((‵ (flft κ q) ⊛ ‵ ftrue) ∷ []) ∵
-      suffices ! _ (ends-at 𝓤 H A pl.ended stayed (pl.clauses 𝓤 H A mem″ run) W (((κ, tt), (q, tt), tt, a, vals), tt) (mach zs) zs
-      (tt, (tt, (tt, tt))) (tt, (tt, (tt, tt)))) $
-      says ! e $ frame ! $ nothing ! $ nothing ! $ fjoin ! $ nothing ! $ fjoin ! $ nothing ! $ fjoin ! $
+      qed W (Tokens ∷ []) ∵
+      suffices ! _ (ends-at 𝓤 H A pl.ended stayed (pl.clauses 𝓤 H A mem″ run) W (((κ, (κ′, tt)), (q, (q′, tt)), tt, a, vals), tt) (mach zs) zs
+      (tt, (tt, (tt, (tt, tt)))) (tt, (tt, (tt, (tt, tt))))) $
+      says ! e $ frame ! $ nothing ! $ nothing ! $ fjoin ! $ nothing ! $ fjoin ! $ nothing ! $ fjoin ! $ nothing ! $ fjoin ! $
       owned ! Row (Is Row) (row-makes 𝓤 H A W) zs _ isz $ move ! (1 ∷ 0 ∷ []) $ done !
 
-  walk : (𝓣 : Tables 𝓤 H) → Triple 𝓤 (𝓣 .C #boards·place-rows) PlaceRows
-      → ent 𝓤 (onEntry 𝓤 H A pl.signature (κ, tt) (q, tt) a vals) (WpFn 𝓤 H (𝓣 .C) (𝓣 .Λ) code.function (mach ys ∷ pg ∷ vint w64 slots ∷ []) Post)
+  walk : (𝓣 : Tables 𝓤 H) → Triple 𝓤 (𝓣 .C #slotboards·place-rows) PlaceRows
+      → ent 𝓤 (onEntry 𝓤 H A pl.signature (κ, (κ′, tt)) (q, (q′, tt)) a vals)
+      (WpFn 𝓤 H (𝓣 .C) (𝓣 .Λ) code.function (mach ys ∷ pg ∷ pv ∷ vint w64 slots ∷ []) Post)
   walk 𝓣 known =
-      qed W ((‵ (flft κ q) ⊛ ‵ ftrue) ∷ ‵ (owns (Row ∷ ShrRef (named 0) κ Sets ∷ usize ∷ []) a vals) ∷ []) ∵
-      enter ! (𝓣 .C) (𝓣 .Λ) code.function (mach ys ∷ pg ∷ vint w64 slots ∷ []) _ $
-      alloc1 ! (λ l₀. alloc1 ! (λ l₁. alloc1 ! (λ l₂. alloc1 ! (λ l₃. alloc1 ! (λ l₄. alloc1 ! (λ l₅. alloc1 ! (λ l₆. alloc1 ! (λ l₇. alloc0 ! $ params1 ! $
-      pass1 ! (init ! 12 refl (row-typed 𝓤 H A W ys is)) $
-      pass1 ! (init ! 10 refl (tt, tt)) $ pass1 ! (init ! 8 refl (tt, record { fits = slots-fits })) $ pass0 ! $
-      assigns ! (of-opd ! (load ! (from ! (stop !)) (look ! 12 refl))) (from ! (stop !)) (init ! 6 refl (row-typed 𝓤 H A W ys is)) $
+      qed W (Tokens ∷ ‵ (owns (Row ∷ ShrRef (named 0) κ Words ∷ ShrRef (named 1) κ′ Bytes ∷ usize ∷ []) a vals) ∷ []) ∵
+      enter ! (𝓣 .C) (𝓣 .Λ) code.function (mach ys ∷ pg ∷ pv ∷ vint w64 slots ∷ []) _ $
+      alloc1 ! (λ l₀. alloc1 ! (λ l₁. alloc1 ! (λ l₂. alloc1 ! (λ l₃. alloc1 ! (λ l₄. alloc1 ! (λ l₅. alloc1 ! (λ l₆. alloc1 ! (λ l₇. alloc1 ! (λ l₈. alloc0 ! $
+      params1 ! $ pass1 ! (init ! 14 refl (row-typed 𝓤 H A W ys is)) $ pass1 ! (init ! 12 refl (tt, tt)) $ pass1 ! (init ! 10 refl (tt, tt)) $
+      pass1 ! (init ! 8 refl (tt, record { fits = slots-fits })) $ pass0 ! $
+      assigns ! (of-opd ! (load ! (from ! (stop !)) (look ! 14 refl))) (from ! (stop !)) (init ! 6 refl (row-typed 𝓤 H A W ys is)) $
       assigns ! (addr ! (from ! (stop !))) (from ! (stop !)) (init ! 2 refl (tt, tt)) $
       assigns ! (agg ! (and-then ! (load ! (from ! (stop !)) (look ! 2 refl)) (and-then ! (lit ! tt) (no-more !)))) (from ! (stop !))
       (init ! 0 refl (tt, (tt, (record { fits = lit< tt }, tt)))) $
-      rewrite ! 0 (λ (m : ℕ). ‵ (fat fullShare lentTy l₇ 0 (sliceVal (l₄, 0) m))) (sym eight) refl $
+      rewrite ! 0 (λ (m : ℕ). ‵ (fat fullShare lentTy l₈ 0 (sliceVal (l₅, 0) m))) (sym eight) refl $
       -- the row is lent for a lifetime that is made here
-      move ! (6 ∷ []) $ use1 W (‵ (cells (mem T.the-row) ys l₄ 0)) (row-in 𝓤 H A W ys l₄ 0 is) $ lft-new ! tt (λ α. move ! (1 ∷ []) $
-      use1 W (later (some (λ (γ : GName). ‵ (MutSlice (named 0) (α ∷ []) T.the-row .own (s α γ l₄) (slice-vals (s α γ l₄)))
-      ⊛ ‵ (flent (α ∷ []) (Held T.the-row (length ys) l₄ 0 γ)))))
-      (lends-slice 𝓤 H A W T.the-row (named 0) (α ∷ []) ys l₄ 0 (subst (Room T.the-row) (sym eight) (lit< tt, lit< tt))) $ await ! tt $ pick ! (λ γ. split ! $
-      -- [the slice; the lender's part; the lifetime's token; _7; …; the other token; what the parameters own]
-      move ! (19 ∷ []) $ fsplit ! $ drop ! $ fsplit ! $ move ! (1 ∷ []) $ drop ! $ move ! (3 ∷ 19 ∷ []) $ join ! $ move ! (0 ∷ 2 ∷ 1 ∷ []) $
-      use3 W (raw (PlaceRows .pre (to-rows α γ l₄))) (goes α γ l₄) $
-      calls-at ! (fmOf 𝓤 H (W .laws) 𝓣) PlaceRows known (to-rows α γ l₄)
-      (and-then ! (load ! (from ! (stop !)) (look ! 2 refl)) (and-then ! (load ! (from ! (stop !)) (look ! 11 refl))
-      (and-then ! (load ! (from ! (stop !)) (look ! 9 refl)) (no-more !)))) (λ w.
-      use1 W (later (some (λ (r : ℕ). ((‵ (flft (α ∷ []) fullShare) ⊛ (‵ (flft κ q) ⊛ ‵ ftrue)) ⊛ ‵ (usize .own r (w ∷ []))) ⊛ raw (Ensured α γ l₄ r))))
+      move ! (6 ∷ []) $ use1 W (‵ (cells (mem T.the-row) ys l₅ 0)) (row-in 𝓤 H A W ys l₅ 0 is) $ lft-new ! tt (λ α. move ! (1 ∷ []) $
+      use1 W (later (some (λ (γ : GName). ‵ (MutSlice (named 0) (α ∷ []) T.the-row .own (s α γ l₅) (slice-vals (s α γ l₅)))
+      ⊛ ‵ (flent (α ∷ []) (Held T.the-row (length ys) l₅ 0 γ)))))
+      (lends-slice 𝓤 H A W T.the-row (named 0) (α ∷ []) ys l₅ 0 (subst (Room T.the-row) (sym eight) (lit< tt, lit< tt))) $ await ! tt $ pick ! (λ γ. split ! $
+      -- [the slice; the lender's part; the lifetime's token; _8; …; the other tokens; what the parameters own]
+      move ! (21 ∷ []) $ fsplit ! $ drop ! $ fsplit ! $ move ! (1 ∷ []) $ fsplit ! $ move ! (1 ∷ []) $ drop ! $ move ! (4 ∷ 22 ∷ []) $ join ! $
+      move ! (2 ∷ 1 ∷ []) $ join ! $ move ! (1 ∷ 2 ∷ 0 ∷ []) $
+      use3 W (raw (PlaceRows .pre (to-rows α γ l₅))) (goes α γ l₅) $
+      calls-at ! (fmOf 𝓤 H (W .laws) 𝓣) PlaceRows known (to-rows α γ l₅)
+      (and-then ! (load ! (from ! (stop !)) (look ! 2 refl)) (and-then ! (load ! (from ! (stop !)) (look ! 13 refl))
+      (and-then ! (load ! (from ! (stop !)) (look ! 11 refl)) (and-then ! (load ! (from ! (stop !)) (look ! 9 refl)) (no-more !))))) (λ w.
+      use1 W (later (some (λ (r : ℕ). ((‵ (flft (α ∷ []) fullShare) ⊛ Tokens) ⊛ ‵ (usize .own r (w ∷ []))) ⊛ raw (Ensured α γ l₅ r))))
       (id⊢ 𝓤 _) $ await ! tt $ pick ! (λ r. split ! $ move ! (1 ∷ []) $
-      use1 W (some (Last α γ l₄ r)) (got α γ l₄ r) $ pick ! (λ zs. split ! $ heard ! (Said α γ l₄ r zs) (λ e.
+      use1 W (some (Last α γ l₅ r)) (got α γ l₅ r) $ pick ! (λ zs. split ! $ heard ! (Said α γ l₅ r zs) (λ e.
       move ! (1 ∷ []) $ split ! $ move ! (1 ∷ []) $ peeks ! usize (Is usize) (shows 𝓤 H A usize) r (w ∷ []) (λ isr. drop ! $ split ! $
-      -- [the lifetime's token; the other; the row's last list; the lender's part; _7; …]
+      -- [the lifetime's token; the others; the row's last list; the lender's part; _8; …]
       land ! (from ! (stop !)) (init ! 8 refl (uint-lawful 𝓤 H A W w64 .typed r _ isr .0)) $
       lft-end ! tt $ move ! (0 ∷ 3 ∷ 2 ∷ []) $
-      use3 W (later (‵ (Arr (mem T.the-row) (length ys) .lies zs l₄ 0))) (slice-back 𝓤 H A W T.the-row (α ∷ []) γ zs (length ys) l₄ 0) $ await ! tt $
-      rewrite ! 0 (λ (m : ℕ). ‵ (Arr (mem T.the-row) m .lies zs l₄ 0)) eight refl $
-      use1 W (given (Is Row zs (row-vals zs)) (‵ (fat fullShare rowTy l₄ 0 (mach zs)))) (row-out 𝓤 H A W zs l₄ 0) $ learn ! (λ isz.
-      -- [_4; the token; _7; …]
-      assigns ! (of-opd ! (load ! (from ! (stop !)) (look ! 0 refl))) (from ! (stop !)) (init ! 15 refl (row-typed 𝓤 H A W zs isz)) $
-      returns ! (look ! 15 refl) $
+      use3 W (later (‵ (Arr (mem T.the-row) (length ys) .lies zs l₅ 0))) (slice-back 𝓤 H A W T.the-row (α ∷ []) γ zs (length ys) l₅ 0) $ await ! tt $
+      rewrite ! 0 (λ (m : ℕ). ‵ (Arr (mem T.the-row) m .lies zs l₅ 0)) eight refl $
+      use1 W (given (Is Row zs (row-vals zs)) (‵ (fat fullShare rowTy l₅ 0 (mach zs)))) (row-out 𝓤 H A W zs l₅ 0) $ learn ! (λ isz.
+      -- [_5; the tokens; _8; …]
+      assigns ! (of-opd ! (load ! (from ! (stop !)) (look ! 0 refl))) (from ! (stop !)) (init ! 17 refl (row-typed 𝓤 H A W zs isz)) $
+      returns ! (look ! 17 refl) $
       forget ! 0 refl $ forget ! 2 refl $ forget ! 4 refl $ forget ! 6 refl $ forget ! 9 refl $ forget ! 11 refl $ forget ! 13 refl $ forget ! 15 refl $
-      move ! (15 ∷ 16 ∷ []) $ free1 ! $ move ! (13 ∷ 14 ∷ []) $ free1 ! $ move ! (11 ∷ 12 ∷ []) $ free1 ! $ move ! (9 ∷ 10 ∷ []) $ free1 ! $
-      move ! (0 ∷ 8 ∷ []) $ free1 ! $ move ! (5 ∷ 6 ∷ []) $ free1 ! $ move ! (3 ∷ 4 ∷ []) $ free1 ! $ move ! (1 ∷ 2 ∷ []) $ free1 ! $ free0 ! $
-      by ! (exits zs (ap (λ (x : RowsPlaced). x .rows) e) isz)))))))))))))))))
+      forget ! 17 refl $ move ! (17 ∷ 18 ∷ []) $ free1 ! $ move ! (15 ∷ 16 ∷ []) $ free1 ! $ move ! (13 ∷ 14 ∷ []) $ free1 ! $ move ! (11 ∷ 12 ∷ []) $
+      free1 ! $ move ! (9 ∷ 10 ∷ []) $ free1 ! $ move ! (0 ∷ 8 ∷ []) $ free1 ! $ move ! (5 ∷ 6 ∷ []) $ free1 ! $ move ! (3 ∷ 4 ∷ []) $ free1 ! $
+      move ! (1 ∷ 2 ∷ []) $ free1 ! $ free0 ! $
+      by ! (exits zs (ruled r zs e) isz))))))))))))))))))
 
 module _ {M : Type 1} (𝓤 : URA M) (H : Heap 𝓤) (A : Atoms 𝓤) (W : Given 𝓤 H A) (mem″ : Memory → SProp 𝓤) (run : Routine → Fun 𝓤) (𝓣 : Tables 𝓤 H)
-    (known : Triple 𝓤 (𝓣 .C #boards·place-rows) (tripleOf 𝓤 H A pr.signature (pr.spec 𝓤 H A mem″ run))) where
+    (known : Triple 𝓤 (𝓣 .C #slotboards·place-rows) (tripleOf 𝓤 H A pr.signature (pr.spec 𝓤 H A mem″ run))) where
   walks : Walks 𝓤 H A pl.ended stayed (WpFn 𝓤 H (𝓣 .C) (𝓣 .Λ) code.function) (pl.clauses 𝓤 H A mem″ run)
   walks = walked 𝓤 H A pl.ended stayed (pl.clauses 𝓤 H A mem″ run) (WpFn 𝓤 H (𝓣 .C) (𝓣 .Λ) code.function)
-      (λ κs. (row-vals, (ptr-vals, (uint-vals w64, tt)))) (λ κs. (row-tells, (shr-tells (named 0) (κs .0) Sets, (uint-tells w64, tt))))
-      (λ κs qs bounds a g are. needs 𝓤 (RowsStartable (a .0) (a .1 .1 .0)) _ (λ ok. walk 𝓤 H A W mem″ run
-      (record { κ = κs .0; q = qs .0; ys = a .0; g = a .1 .0; slots = a .1 .1 .0; is = are .0; slots-fits = are .1 .1 .0 .1; ok = ok }) 𝓣 known))
+      (λ κs. (row-vals, (ptr-vals, (ptr-vals, (uint-vals w64, tt)))))
+      (λ κs. (row-tells, (shr-tells (named 0) (κs .0) Words, (shr-tells (named 1) (κs .1 .0) Bytes, (uint-tells w64, tt)))))
+      (λ κs qs bounds a g are. needs 𝓤 (RowsSeated (a .0) (a .1 .0 .now) (a .1 .1 .0 .now) (a .1 .1 .1 .0)) _ (λ ok. walk 𝓤 H A W mem″ run (record {
+        κ = κs .0;
+        q = qs .0;
+        κ′ = κs .1 .0;
+        q′ = qs .1 .0;
+        ys = a .0;
+        g = a .1 .0;
+        v = a .1 .1 .0;
+        slots = a .1 .1 .1 .0;
+        is = are .0;
+        slots-fits = are .1 .1 .1 .0 .1;
+        ok = ok;
+      }) 𝓣 known))
 
   meets : Meets 𝓤 H A pl.signature (WpFn 𝓤 H (𝓣 .C) (𝓣 .Λ) code.function) (pl.spec 𝓤 H A mem″ run)
   meets =
       walk-meets 𝓤 H A pl.ended stayed W (
-        goes-dropped 𝓤 H A W 1 rows-slot kept (λ κs x f. refl),
-        (goes-dropped 𝓤 H A W 1 tables-slot kept (λ κs x f. refl), (goes-dropped 𝓤 H A W 1 slots-slot kept (λ κs x f. refl), tt)),
+        goes-dropped 𝓤 H A W 2 rows-slot kept (λ κs x f. refl),
+        (
+          goes-dropped 𝓤 H A W 2 tables-slot kept (λ κs x f. refl),
+          (goes-dropped 𝓤 H A W 2 places-slot kept (λ κs x f. refl), (goes-dropped 𝓤 H A W 2 slots-slot kept (λ κs x f. refl), tt)),
+        ),
       )
       (pl.clauses 𝓤 H A mem″ run) (WpFn 𝓤 H (𝓣 .C) (𝓣 .Λ) code.function) (WpFn-mono 𝓤 H (W .laws) 𝓣 code.function) walks
 
@@ -293,4 +340,4 @@ placed-spec 𝓤 H 𝓜 𝓖 𝓡 =
     (tables 𝓤 H 𝓜 𝓡 code.env .C) (tables 𝓤 H 𝓜 𝓡 code.env .Λ) #placed-rows·placed code.function (code.unfolded 𝓤 H 𝓜 𝓡)
     (meets 𝓤 H (𝓖 .A) (givenOf 𝓤 H 𝓜 𝓖) (𝓜 .mem) (𝓡 .run) (tablesOf 𝓤 H 𝓜 (tables 𝓤 H 𝓜 𝓡 code.env))
     (cited 𝓤 H (tripleOf 𝓤 H (𝓖 .A) pr.signature (pr.spec 𝓤 H (𝓖 .A) (𝓜 .mem) (𝓡 .run))) 𝓜 𝓡 code.env
-    #boards·place-rows pr-def.routine code.calls-boards·place-rows (pr-thm.met 𝓤 H 𝓜 𝓖 𝓡)))
+    #slotboards·place-rows pr-def.routine code.calls-slotboards·place-rows (pr-thm.met 𝓤 H 𝓜 𝓖 𝓡)))

@@ -6,6 +6,7 @@ use Rattle.rows.specs.Rows.{rowAnswer}
 use Rattle.rows.specs.declared.RowAnswer.the-variants.{Row}
 use Rattle.laws.specs.Tests.{T-true}
 use lib.ListN.{length}
+use Rattle.rules.specs.Sizes.{maxJobs}
 use borrow.Author.Tests.{not-true, not-false}
 use borrow.Author.Needs.{needs}
 use native.Mathlib.Omega.{arith}
@@ -35,11 +36,11 @@ refused-requires c κs =
 
 returns : tie.Need-returns Inv-loop μ-loop
 returns c =
-    refused-read _ _ (c .refused .ensures) (no-head _ (sym (c .before .before .head-ok .ensures) ∙ not-true _ (c .before .if1 .taken)))
+    refused-read _ _ _ _ _ (c .refused .ensures) (no-head _ (sym (c .before .before .head-ok .ensures) ∙ not-true _ (c .before .if1 .taken)))
 
 loop-holds : tie.Need-loop-holds Inv-loop μ-loop
 loop-holds c =
-    start-read _ (head-long _ (T-true _ .1 (sym (c .before .head-ok .ensures) ∙ not-false _ (c .if1 .left))))
+    start-read _ _ _ _ (c .before .before .before .pre) (head-long _ (T-true _ .1 (sym (c .before .head-ok .ensures) ∙ not-false _ (c .if1 .left))))
 
 refused-requires-2 : tie.Need-refused-requires-2 Inv-loop μ-loop
 refused-requires-2 c κs =
@@ -47,7 +48,7 @@ refused-requires-2 c κs =
 
 returns-2 : tie.Need-returns-2 Inv-loop μ-loop
 returns-2 c =
-    refused-read _ _ (c .refused2 .ensures) (one-too-many _ _ _ _ _ _ (c .before .before .before .loop .inv) (c .before .before .loop-test .taken) (c .before .if2 .taken))
+    refused-read _ _ _ _ _ (c .refused2 .ensures) (one-too-many _ _ _ _ _ _ (c .before .before .before .loop .inv) (c .before .before .loop-test .taken) (c .before .if2 .taken))
 
 row-at-requires : tie.Need-row-at-requires Inv-loop μ-loop
 row-at-requires c κs =
@@ -67,13 +68,13 @@ refused-requires-3 c κs =
 
 returns-3 : tie.Need-returns-3 Inv-loop μ-loop
 returns-3 c =
-    refused-read _ _ (c .refused3 .ensures) (refuses _ _ _ _ _ _ (c .before .before .before .before .before .before .loop .inv) (c .before .before .before .before .before .loop-test .taken) (sym (c .before .before .before .row-at .ensures) ∙ c .before .enum-told .given .1))
+    refused-read _ _ _ _ _ (c .refused3 .ensures) (refuses _ _ _ _ _ _ (c .before .before .before .before .before .before .loop .inv) (c .before .before .before .before .before .loop-test .taken) (sym (c .before .before .before .row-at .ensures) ∙ c .before .enum-told .given .1))
 
--- the row that is found lies in the table, and is one of at most 64
+-- the row that is found lies in the table, and is one of at most 400
 lies : (c : tie.After-known-told Inv-loop μ-loop) →
     let l = c .before .before .before .before .before .before .loop in
     let bs = c .before .before .before .before .before .before .before .before .before .before .args .table .now in
-    (l .count < 64) × (l .at < 65536) × (l .at + 4 < length bs) × (l .at < c .before .end .given .0 .0)
+    (l .count < maxJobs) × (l .at < 65536) × (l .at + 4 < length bs) × (l .at < c .before .end .given .0 .0)
 lies c =
     let l = c .before .before .before .before .before .before .loop in
     row-in _ _ _ _ _ _ (l .inv) (c .before .before .before .before .before .loop-test .taken) _ (found c) (c .before .before .before .before .if2 .left)
@@ -86,8 +87,8 @@ mul-offset : tie.Need-mul-offset Inv-loop μ-loop
 mul-offset c =
     let h = lies c in search needs
 
-array-write-offset : tie.Need-array-write-offset Inv-loop μ-loop
-array-write-offset c =
+element-write-offset : tie.Need-element-write-offset Inv-loop μ-loop
+element-write-offset c =
     let h = lies c in search needs
 
 add-start : tie.Need-add-start Inv-loop μ-loop
@@ -98,8 +99,8 @@ shared-slice-read-start : tie.Need-shared-slice-read-start Inv-loop μ-loop
 shared-slice-read-start c =
     let h = lies (c .before) in search needs
 
-array-write-start : tie.Need-array-write-start Inv-loop μ-loop
-array-write-start c =
+element-write-start : tie.Need-element-write-start Inv-loop μ-loop
+element-write-start c =
     let h = lies (c .before) in search needs
 
 add-board : tie.Need-add-board Inv-loop μ-loop
@@ -110,8 +111,8 @@ shared-slice-read-board : tie.Need-shared-slice-read-board Inv-loop μ-loop
 shared-slice-read-board c =
     let h = lies (c .before .before) in search needs
 
-array-write-board : tie.Need-array-write-board Inv-loop μ-loop
-array-write-board c =
+element-write-board : tie.Need-element-write-board Inv-loop μ-loop
+element-write-board c =
     let h = lies (c .before .before) in search needs
 
 add-count : tie.Need-add-count Inv-loop μ-loop
@@ -165,13 +166,13 @@ read-rows-spec =
     returns-3
     cast-offset
     mul-offset
-    array-write-offset
+    element-write-offset
     add-start
     shared-slice-read-start
-    array-write-start
+    element-write-start
     add-board
     shared-slice-read-board
-    array-write-board
+    element-write-board
     add-count
     loop-less
     loop-again

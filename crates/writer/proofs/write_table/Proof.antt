@@ -53,16 +53,8 @@ value-at-requires : tie.Need-value-at-requires Inv-loop μ-loop
 value-at-requires c κs =
     rw (c .index .ensures) (c .before .before .before .before .before .before .before .before .before .before .pre .2 .are-whole _ (c .before .before .loop-test .taken))
 
-sub-start : tie.Need-sub-start Inv-loop μ-loop
-sub-start c =
-    search needs
-
 element-copy-out-start : tie.Need-element-copy-out-start Inv-loop μ-loop
 element-copy-out-start c =
-    search needs
-
-sub-board : tie.Need-sub-board Inv-loop μ-loop
-sub-board c =
     search needs
 
 element-copy-out-board : tie.Need-element-copy-out-board Inv-loop μ-loop
@@ -136,9 +128,7 @@ write-table-spec =
     element-copy-out-index
     index-requires
     value-at-requires
-    sub-start
     element-copy-out-start
-    sub-board
     element-copy-out-board
     sub-put-row
     part-put-row-start

@@ -16,6 +16,9 @@ abbrev μ-loop : tie.MeasureT-loop
 loop-holds : tie.Need-loop-holds Inv-loop μ-loop
 loop-holds c = search needs
 
+sub-if1 : tie.Need-sub-if1 Inv-loop μ-loop
+sub-if1 c = search needs
+
 mul-byte : tie.Need-mul-byte Inv-loop μ-loop
 mul-byte c = search needs
 
@@ -56,6 +59,7 @@ put-needs-spec =
     Inv-loop
     μ-loop
     loop-holds
+    sub-if1
     mul-byte
     byte-requires
     mul-byte-2

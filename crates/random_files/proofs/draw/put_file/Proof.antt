@@ -15,6 +15,9 @@ abbrev μ-loop : tie.MeasureT-loop
 add-put-jobs : tie.Need-add-put-jobs Inv-loop μ-loop
 add-put-jobs c = search needs
 
+cast-put-jobs : tie.Need-cast-put-jobs Inv-loop μ-loop
+cast-put-jobs c = search needs
+
 put-jobs-requires : tie.Need-put-jobs-requires Inv-loop μ-loop
 put-jobs-requires c κs = search needs
 
@@ -52,6 +55,7 @@ put-file-spec =
     Inv-loop
     μ-loop
     add-put-jobs
+    cast-put-jobs
     put-jobs-requires
     steps-from-requires
     loop-holds

@@ -15,100 +15,82 @@ abbrev μ-loop : tie.MeasureT-loop
     count - i
 
 element-write-table : tie.Need-element-write-table Inv-loop μ-loop
-element-write-table c =
-    search needs
+element-write-table c = search needs
 
 element-write-table-2 : tie.Need-element-write-table-2 Inv-loop μ-loop
-element-write-table-2 c =
-    search needs
+element-write-table-2 c = search needs
 
 element-write-table-3 : tie.Need-element-write-table-3 Inv-loop μ-loop
-element-write-table-3 c =
-    search needs
+element-write-table-3 c = search needs
 
 element-write-table-4 : tie.Need-element-write-table-4 Inv-loop μ-loop
-element-write-table-4 c =
-    search needs
+element-write-table-4 c = search needs
+
+low-requires : tie.Need-low-requires Inv-loop μ-loop
+low-requires c κs = search needs
 
 element-write-table-5 : tie.Need-element-write-table-5 Inv-loop μ-loop
-element-write-table-5 c =
-    search needs
+element-write-table-5 c = search needs
 
 loop-holds : tie.Need-loop-holds Inv-loop μ-loop
-loop-holds c =
-    search needs
-
-cast-loop : tie.Need-cast-loop Inv-loop μ-loop
-cast-loop c =
-    search needs
+loop-holds c = search needs
 
 element-write-table-6 : tie.Need-element-write-table-6 Inv-loop μ-loop
-element-write-table-6 c =
-    search needs
+element-write-table-6 c = search needs
 
 add-table : tie.Need-add-table Inv-loop μ-loop
-add-table c =
-    search needs
+add-table c = search needs
 
 element-write-table-7 : tie.Need-element-write-table-7 Inv-loop μ-loop
-element-write-table-7 c =
-    search needs
+element-write-table-7 c = search needs
 
-div-table : tie.Need-div-table Inv-loop μ-loop
-div-table c =
-    search needs
+div-low : tie.Need-div-low Inv-loop μ-loop
+div-low c = search needs
+
+low-requires-2 : tie.Need-low-requires-2 Inv-loop μ-loop
+low-requires-2 c κs = search needs
 
 add-table-2 : tie.Need-add-table-2 Inv-loop μ-loop
-add-table-2 c =
-    search needs
+add-table-2 c = search needs
 
 element-write-table-8 : tie.Need-element-write-table-8 Inv-loop μ-loop
-element-write-table-8 c =
-    search needs
+element-write-table-8 c = search needs
 
-rem-table : tie.Need-rem-table Inv-loop μ-loop
-rem-table c =
-    search needs
+rem-low : tie.Need-rem-low Inv-loop μ-loop
+rem-low c = search needs
+
+add-low : tie.Need-add-low Inv-loop μ-loop
+add-low c = let b = mod-lt (c .before .before .loop .i) (c .before .before .before .before .pre .1) in search needs
+
+low-requires-3 : tie.Need-low-requires-3 Inv-loop μ-loop
+low-requires-3 c κs = search needs
 
 add-table-3 : tie.Need-add-table-3 Inv-loop μ-loop
-add-table-3 c =
-    let b = mod-lt (c .before .loop .i) (c .before .before .pre .1) in search needs
-
-add-table-4 : tie.Need-add-table-4 Inv-loop μ-loop
-add-table-4 c =
-    search needs
+add-table-3 c = search needs
 
 element-write-table-9 : tie.Need-element-write-table-9 Inv-loop μ-loop
-element-write-table-9 c =
-    search needs
+element-write-table-9 c = search needs
 
-add-table-5 : tie.Need-add-table-5 Inv-loop μ-loop
-add-table-5 c =
-    search needs
+add-table-4 : tie.Need-add-table-4 Inv-loop μ-loop
+add-table-4 c = search needs
 
 element-write-table-10 : tie.Need-element-write-table-10 Inv-loop μ-loop
-element-write-table-10 c =
-    search needs
+element-write-table-10 c = search needs
 
 add-at : tie.Need-add-at Inv-loop μ-loop
-add-at c =
-    search needs
+add-at c = search needs
 
 add-i : tie.Need-add-i Inv-loop μ-loop
-add-i c =
-    search needs
+add-i c = search needs
 
 loop-less : tie.Need-loop-less Inv-loop μ-loop
-loop-less c =
-    search needs
+loop-less c = search needs
 
 loop-again : tie.Need-loop-again Inv-loop μ-loop
-loop-again c =
-    search needs
+loop-again c = search needs
 
 returns : tie.Need-returns Inv-loop μ-loop
-returns c =
-    search needs
+returns c = search needs
 
 pub put-table-spec : {M : Type 1} → statement M
 put-table-spec =
@@ -120,20 +102,22 @@ put-table-spec =
     element-write-table-2
     element-write-table-3
     element-write-table-4
+    low-requires
     element-write-table-5
     loop-holds
-    cast-loop
     element-write-table-6
     add-table
     element-write-table-7
-    div-table
+    div-low
+    low-requires-2
     add-table-2
     element-write-table-8
-    rem-table
+    rem-low
+    add-low
+    low-requires-3
     add-table-3
-    add-table-4
     element-write-table-9
-    add-table-5
+    add-table-4
     element-write-table-10
     add-at
     add-i

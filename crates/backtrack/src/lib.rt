@@ -1,0 +1,419 @@
+// One search: the preferred plan of one length with at most so many jobs in a slot, if there is one. Depth first over the slots, with a bitmap
+// of the states that have no plan.
+//
+// A state before slot s is `done` and `ran`, sets of places of the slot before: done by its end, and ran in it. `here` is what of `done` has its
+// window still open in slot s: a set of places of slot s, as is all that is tried there. No set of places outlives its slot.
+// The tables are those of crate seats.
+use jobset::Set;
+use layout::CAP;
+use layout::DUE;
+use layout::ENDS;
+use layout::HELD;
+use layout::MARKS;
+use layout::PREV;
+use layout::SLOTS;
+use layout::TABLES;
+use layout::THREE;
+use layout::WHO;
+use layout::set_at;
+use sizes::MAX_SLOTS;
+use sizes::PLACES;
+ghost use mathlib.Core.Path.{_≡_};
+ghost use mathlib.Core.Bool.{true, false};
+ghost use Prim.Native.Nat.{_-_, _*_, _^_, _<_, _≤_};
+ghost use lib.Dec.{ltb};
+ghost use lib.ListN.{length};
+ghost use Rattle.rules.specs.Basics.{at};
+ghost use Rattle.jobset.specs.Sets.{member, isEmpty, isSubset, Subset};
+ghost use Rattle.threes.specs.Threes.{Eight};
+ghost use Rattle.places.specs.Rows.{chosen};
+ghost use Rattle.places.specs.Slot.{carried, nearAt, fitOf};
+ghost use Rattle.places.specs.Model.{key};
+ghost use Rattle.places.specs.Memo.{Reached};
+ghost use Rattle.layout.specs.Layout.{tablesIn, marksIn, ThreesIn};
+ghost use Rattle.backtrack.specs.Entries.{slotsIn, capIn};
+ghost use Rattle.backtrack.specs.Sorting.{plain, sortPlace, foundAt};
+ghost use Rattle.backtrack.specs.Choosing.{choiceOf};
+ghost use Rattle.backtrack.specs.Listing.{rowFrom, laterOf, Last, Listable, Listed};
+ghost use Rattle.backtrack.specs.Numbers.{digitsOf, endBelow};
+ghost use Rattle.backtrack.specs.Picking.{pickedOf};
+ghost use Rattle.backtrack.specs.Search.{Searchable, Opened, InSlot, Takes, Told, written};
+ghost use Rattle.backtrack.specs.Search.{mustAt, exploredIn, attempted, numbered, choiceTries, slotTries};
+
+// The candidates of a slot: those without a giver in the slot before, those with exactly one, and these givers (places of the slot
+// before); and those of them that two candidates share.
+struct Found {
+    pub forced: Set,
+    pub tied: Set,
+    pub tying: Set,
+    pub shared: Set,
+}
+
+// The sets that a slot tries: all of `forced`, and of the places `among` just so many, no two of them with one giver in the slot before.
+struct Choice {
+    pub forced: Set,
+    pub among: Set,
+    pub count: usize,
+}
+
+// ---- the candidates
+
+// The givers in the slot before of the job at place p of the slot.
+fn givers_at(tables: &[u16; TABLES], slot: usize, p: usize) -> Set
+    requires { ⌜ (slot < 64) × (p < 64) ⌝ }
+    ensures { λ r. ⌜ r ≡ tablesIn (now (tables .entry)) .prev slot p ⌝ }
+{
+    set_at(tables, PREV + PLACES * slot + p)
+}
+
+// One more place, with its job's givers, among the candidates where the job is one.
+fn sort_place(c: Found, givers: Set, done: Set, ran: Set, p: usize) -> Found
+    requires { ⌜ p < 64 ⌝ }
+    ensures { λ r. ⌜ r ≡ sortPlace done ran p givers c ⌝ }
+{
+    if !givers.is_subset(done) {
+        return c;
+    }
+    let near = givers.intersection(ran);
+    let forced = c.forced;
+    let tied = c.tied;
+    let tying = c.tying;
+    let shared = c.shared;
+    if near.is_empty() {
+        return Found {
+            forced: forced.with(p),
+            tied,
+            tying,
+            shared,
+        };
+    }
+    if !near.is_one() {
+        return c;
+    }
+    Found {
+        forced,
+        tied: tied.with(p),
+        tying: tying.union(near),
+        shared: shared.union(tying.intersection(near)),
+    }
+}
+
+// The candidates of a slot: of its places that are not done.
+fn candidates_at(tables: &[u16; TABLES], slot: usize, here: Set, done: Set, ran: Set) -> Found
+    requires { ⌜ slot < 64 ⌝ }
+    ensures { λ r. ⌜ r ≡ foundAt (tablesIn (now (tables .entry))) slot here done ran ⌝ }
+{
+    let held = set_at(tables, HELD + slot);
+    let mut rest = held.minus(here);
+    let mut c = Found {
+        forced: Set::EMPTY,
+        tied: Set::EMPTY,
+        tying: Set::EMPTY,
+        shared: Set::EMPTY,
+    };
+    while !rest.is_empty() {
+        let p = rest.lowest() as usize;
+        c = sort_place(c, givers_at(tables, slot, p), done, ran, p);
+        rest = rest.rest();
+    }
+    c
+}
+
+// Do so many jobs, all that fit into the slot, exceed the cap? (No slot has more than PLACES.)
+fn exceeds(tables: &[u16; TABLES], c: Found) -> bool
+    requires { ⌜ fitOf (plain c) ≤ 8 ⌝ }
+    ensures { λ r. ⌜ r ≡ ltb (capIn (now (tables .entry))) (fitOf (plain c)) ⌝ }
+{
+    let cap = fields::index(tables[CAP]);
+    if cap == PLACES {
+        return false;
+    }
+    let forced = c.forced;
+    let tying = c.tying;
+    cap < (forced.count() + tying.count()) as usize
+}
+
+// What the slot tries: every forced candidate, and one for each tying giver; or, where that exceeds the cap, as many of all candidates.
+fn choice_of(tables: &[u16; TABLES], c: Found) -> Choice
+    requires { ⌜ fitOf (plain c) ≤ 8 ⌝ }
+    ensures { λ r. ⌜ r ≡ choiceOf (capIn (now (tables .entry))) c ⌝ }
+{
+    let forced = c.forced;
+    let tied = c.tied;
+    let tying = c.tying;
+    if exceeds(tables, c) {
+        return Choice {
+            forced: Set::EMPTY,
+            among: forced.union(tied),
+            count: fields::index(tables[CAP]),
+        };
+    }
+    Choice {
+        forced,
+        among: tied,
+        count: tying.count() as usize,
+    }
+}
+
+// ---- a row of places by job number
+
+// Of two places of a slot the one with the higher job.
+fn later(tables: &[u16; TABLES], slot: usize, p: usize, q: usize) -> usize
+    requires { ⌜ (slot < 64) × (p < 8) × (q < 8) ⌝ }
+    ensures { λ r. ⌜ r ≡ laterOf (tablesIn (now (tables .entry)) .who slot) p q ⌝ }
+{
+    let first = WHO + PLACES * slot;
+    if tables[first + p] < tables[first + q] {
+        return q;
+    }
+    p
+}
+
+// The place with the highest job of a set that is not empty.
+fn last_place(tables: &[u16; TABLES], slot: usize, places: Set) -> usize
+    requires { ⌜ (slot < 64) × Eight places × (isEmpty places ≡ false) ⌝ }
+    ensures { λ r. ⌜ Last (tablesIn (now (tables .entry)) .who slot) places r ⌝ }
+{
+    let mut last = places.lowest() as usize;
+    let mut rest = places.rest();
+    while !rest.is_empty() {
+        last = later(tables, slot, last, rest.lowest() as usize);
+        rest = rest.rest();
+    }
+    last
+}
+
+// The places of a set by falling job number; gives how many.
+pub fn by_number(tables: &[u16; TABLES], slot: usize, places: Set, row: &mut [u8; PLACES]) -> usize
+    requires { ⌜ (slot < 64) × (length (now row) ≡ 8) × Listable (tablesIn (now tables) .who slot) places ⌝ }
+    ensures { λ r. ⌜ Listed (tablesIn (now (tables .entry)) .who slot) places (now (row .exit)) r ⌝ }
+{
+    let mut rest = places;
+    let mut count = 0;
+    while !rest.is_empty() {
+        let p = last_place(tables, slot, rest);
+        row[count] = p as u8;
+        rest = rest.without(p);
+        count += 1;
+    }
+    count
+}
+
+// ---- the sets of a row
+
+// The numbers with just so many binary digits 1 are tried from the highest down. An end is one more than the next of them, and 0 where there is
+// none: here that of those below 1 << size.
+fn first_end(size: usize, count: usize) -> u64
+    requires { ⌜ size ≤ 8 ⌝ }
+    ensures { λ r. ⌜ r ≡ endBelow count (2 ^ size) ⌝ }
+{
+    if size < count {
+        return 0;
+    }
+    (1 << size) - (1 << (size - count)) + 1
+}
+
+// The end of those below a number with as many digits 1. The number and one more have in common what is above its lowest 0; the lowest 1 of
+// that moves down by one, and the ones below the 0 follow right behind it.
+fn next_end(number: Set) -> u64
+    requires { ⌜ number .bits < 256 ⌝ }
+    ensures { λ r. ⌜ r ≡ endBelow (digitsOf (number .bits)) (number .bits) ⌝ }
+{
+    let above = Set {
+        bits: number.bits + 1,
+    };
+    let upper = number.intersection(above);
+    if upper.is_empty() {
+        return 0;
+    }
+    let moved = upper.lowest() - above.lowest() - 1;
+    upper.bits - (1 << moved) + 1
+}
+
+// What a number takes of the row, place k where it has the binary digit k; nothing where two of them share a giver in the slot before.
+fn pick(tables: &[u16; TABLES], slot: usize, ran: Set, row: &[u8; PLACES], number: Set) -> Set
+    requires { ⌜ (slot < 64) × ((k : _) → member number k ≡ true → (k < 8) × (at (now row) k < 64)) ⌝ }
+    ensures { λ r. ⌜ r ≡ pickedOf (nearAt (tablesIn (now (tables .entry))) slot ran) (now (row .entry)) number ⌝ }
+{
+    let mut rest = number;
+    let mut places = Set::EMPTY;
+    let mut givers = Set::EMPTY;
+    while !rest.is_empty() {
+        let p = fields::wide(row[rest.lowest() as usize]);
+        let all = givers_at(tables, slot, p);
+        let near = all.intersection(ran);
+        let both = givers.intersection(near);
+        if !both.is_empty() {
+            return Set::EMPTY;
+        }
+        places = places.with(p);
+        givers = givers.union(near);
+        rest = rest.rest();
+    }
+    places
+}
+
+// ---- the search
+
+// The first mark of a row that begins at a byte.
+fn first_mark(byte: u16) -> usize
+    ensures { λ r. ⌜ (r ≡ 8 * byte) × (r < 524288) ⌝ }
+{
+    8 * (byte as usize)
+}
+
+// The mark of a state.
+fn key_of(tables: &[u16; TABLES], slot: usize, done: Set, ran: Set) -> usize
+    requires { ⌜ (slot ≤ 64) × Eight done × Eight ran × ThreesIn (now tables) ⌝ }
+    ensures { λ r. ⌜ r ≡ key (marksIn (now (tables .entry))) slot done ran ⌝ }
+{
+    let row = first_mark(tables[MARKS + slot]);
+    let of_done = fields::index(tables[THREE + done.bits as usize]);
+    let of_ran = fields::index(tables[THREE + ran.bits as usize]);
+    row + (of_done + of_ran)
+}
+
+// Tries a set of places: whether it leads to a plan, and the plan's sets in `path`.
+fn try_set(
+    tables: &[u16; TABLES],
+    dead: &mut [u8],
+    here: Set,
+    places: Set,
+    slot: usize,
+    path: &mut [u8; MAX_SLOTS],
+) -> bool
+    requires { ⌜ InSlot (now tables) (length (now dead)) slot here × Subset places (tablesIn (now tables) .held slot) × (isSubset (mustAt (now tables) slot here) places ≡ true) ⌝ }
+    ensures { λ r. ⌜ Told slot (attempted (now (tables .entry)) slot here places (now (dead .entry))) (now (path .entry)) r (now (path .exit)) (now (dead .exit)) ⌝ }
+{
+    if explore(tables, dead, here.union(places), places, slot + 1, path) {
+        path[slot] = places.bits as u8;
+        return true;
+    }
+    false
+}
+
+// Tries what a number takes of the row, with what is forced, where the slot may have it and it has what must run now.
+fn try_number(
+    tables: &[u16; TABLES],
+    dead: &mut [u8],
+    here: Set,
+    ran: Set,
+    slot: usize,
+    path: &mut [u8; MAX_SLOTS],
+    c: Choice,
+    must: Set,
+    row: &[u8; PLACES],
+    number: Set,
+) -> bool
+    requires { ⌜ InSlot (now tables) (length (now dead)) slot here × (must ≡ mustAt (now tables) slot here) × (number .bits < 256) × Takes (tablesIn (now tables) .held slot) c (chosen (rowFrom (now row) 8) number) ⌝ }
+    ensures { λ r. ⌜ Told slot (numbered (now (tables .entry)) slot here ran c (rowFrom (now (row .entry)) 8) number (now (dead .entry))) (now (path .entry)) r (now (path .exit)) (now (dead .exit)) ⌝ }
+{
+    let picked = pick(tables, slot, ran, row, number);
+    if picked.is_empty() {
+        if !number.is_empty() {
+            return false;
+        }
+    }
+    let forced = c.forced;
+    let places = forced.union(picked);
+    if !must.is_subset(places) {
+        return false;
+    }
+    try_set(tables, dead, here, places, slot, path)
+}
+
+// The sets of a slot in the order of preference: those of the row by falling numbers, with just as many places as the choice says.
+fn try_row(
+    tables: &[u16; TABLES],
+    dead: &mut [u8],
+    here: Set,
+    ran: Set,
+    slot: usize,
+    path: &mut [u8; MAX_SLOTS],
+    c: Choice,
+    must: Set,
+) -> bool
+    requires { ⌜ InSlot (now tables) (length (now dead)) slot here × (must ≡ mustAt (now tables) slot here) × Subset (c .forced) (tablesIn (now tables) .held slot) × Subset (c .among) (tablesIn (now tables) .held slot) ⌝ }
+    ensures { λ r. ⌜ Told slot (choiceTries (now (tables .entry)) slot here ran c (now (dead .entry))) (now (path .entry)) r (now (path .exit)) (now (dead .exit)) ⌝ }
+{
+    let mut row = [0; PLACES];
+    let size = by_number(tables, slot, c.among, &mut row);
+    let mut end = first_end(size, c.count);
+    while 0 < end {
+        let number = Set { bits: end - 1 };
+        end = next_end(number);
+        if try_number(tables, dead, here, ran, slot, path, c, must, &row, number) {
+            return true;
+        }
+    }
+    false
+}
+
+// The sets of a slot. Most states do not branch: all candidates are the one set.
+fn try_sets(
+    tables: &[u16; TABLES],
+    dead: &mut [u8],
+    here: Set,
+    done: Set,
+    ran: Set,
+    slot: usize,
+    path: &mut [u8; MAX_SLOTS],
+) -> bool
+    requires { ⌜ Opened (now tables) (length (now dead)) slot done ran × (here ≡ carried (tablesIn (now tables)) slot done) ⌝ }
+    ensures { λ r. ⌜ Told slot (slotTries (now (tables .entry)) slot done ran (now (dead .entry))) (now (path .entry)) r (now (path .exit)) (now (dead .exit)) ⌝ }
+{
+    let c = candidates_at(tables, slot, here, done, ran);
+    let forced = c.forced;
+    let able = forced.union(c.tied);
+    let due = set_at(tables, DUE + (slot + 1));
+    let must = due.minus(here);
+    if !must.is_subset(able) {
+        return false;
+    }
+    let shared = c.shared;
+    if shared.is_empty() {
+        if !exceeds(tables, c) {
+            return try_set(tables, dead, here, able, slot, path);
+        }
+    }
+    try_row(
+        tables,
+        dead,
+        here,
+        ran,
+        slot,
+        path,
+        choice_of(tables, c),
+        must,
+    )
+}
+
+// The preferred plan from slot `slot` on: whether there is one, and its sets in `path`. All that is due before the slot is done.
+// `dead` has the marks of the states that were found to have none. The first six parameters travel in registers.
+pub fn explore(
+    tables: &[u16; TABLES],
+    dead: &mut [u8],
+    done: Set,
+    ran: Set,
+    slot: usize,
+    path: &mut [u8; MAX_SLOTS],
+) -> bool
+    requires { ⌜ Searchable (now tables) (length (now dead)) × Reached (tablesIn (now tables)) (slotsIn (now tables)) (slotsIn (now tables) - slot) slot done ran × (isSubset (tablesIn (now tables) .due slot) done ≡ true) ⌝ }
+    ensures found { λ r. ⌜ r ≡ exploredIn (now (tables .entry)) slot done ran (now (dead .entry)) .plan .ok ⌝ }
+    ensures path { λ _. ⌜ now (path .exit) ≡ written slot (exploredIn (now (tables .entry)) slot done ran (now (dead .entry)) .plan .sets) (now (path .entry)) ⌝ }
+    ensures dead { λ _. ⌜ now (dead .exit) ≡ exploredIn (now (tables .entry)) slot done ran (now (dead .entry)) .dead ⌝ }
+{
+    if slot == fields::index(tables[SLOTS]) {
+        return true;
+    }
+    let key = key_of(tables, slot, done, ran);
+    if bitmap::marked(dead, key) {
+        return false;
+    }
+    let here = done.minus(set_at(tables, ENDS + slot));
+    if try_sets(tables, dead, here, done, ran, slot, path) {
+        return true;
+    }
+    bitmap::mark(dead, key);
+    false
+}

@@ -1,0 +1,2 @@
+-- The tables of places in one array. Assumes nothing.
+pub mod Layout

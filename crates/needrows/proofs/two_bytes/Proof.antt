@@ -1,0 +1,51 @@
+-- `needrows::two_bytes` meets its contract. Assumes nothing.
+use borrow.Author.Needs.{needs}
+use Prim.Native.Nat.{_+_}
+use native.Mathlib.Omega.{arith}
+use Rattle.needrows.specs.Rows.{byteAt, twoAt}
+use Rattle.needrows.proofs.two_bytes.Statement.{statement}
+use Rattle.needrows.proofs.two_bytes.Tie as tie
+
+shared-slice-read-wide : tie.Need-shared-slice-read-wide
+shared-slice-read-wide c = search needs
+
+wide-requires : tie.Need-wide-requires
+wide-requires c κs = search needs
+
+add-wide : tie.Need-add-wide
+add-wide c = search needs
+
+shared-slice-read-wide-2 : tie.Need-shared-slice-read-wide-2
+shared-slice-read-wide-2 c = search needs
+
+wide-requires-2 : tie.Need-wide-requires-2
+wide-requires-2 c κs = search needs
+
+mul-result : tie.Need-mul-result
+mul-result c =
+    let s = c .before .before .before .before .before in
+    omega (arith, c .before .shared-slice-known3 .given (s .args .at), c .before .shared-slice-known3 .given (s .args .at + 1))
+
+add-result : tie.Need-add-result
+add-result c =
+    let s = c .before .before .before .before .before in
+    omega (arith, c .before .shared-slice-known3 .given (s .args .at), c .before .shared-slice-known3 .given (s .args .at + 1))
+
+returns : tie.Need-returns
+unfolding twoAt byteAt
+returns c =
+    let s = c .before .before .before .before .before in
+    omega (arith, c .before .shared-slice-known3 .given (s .args .at), c .before .shared-slice-known3 .given (s .args .at + 1))
+
+pub two-bytes-spec : {M : Type 1} → statement M
+two-bytes-spec =
+    tie.close
+    (tie.spec
+    shared-slice-read-wide
+    wide-requires
+    add-wide
+    shared-slice-read-wide-2
+    wide-requires-2
+    mul-result
+    add-result
+    returns)
