@@ -9,6 +9,7 @@ use Prim.Native.Nat.{ℕ, _^_, _≤_, _<_}
 use native.Mathlib.Omega.{arith}
 use lib.Dec.{ltb}
 use lib.ListN.{length}
+use Rattle.rules.specs.Sizes.{maxWidth}
 use Rattle.rules.specs.Basics.{choose, range, Distinct}
 use Rattle.laws.specs.Counting.{pigeonhole, range-below, length-range}
 use Rattle.jobset.specs.declared.Set.{Set}
@@ -85,12 +86,12 @@ module _ (A : Tables) (s : ℕ) (done ran : Set) (low : (p : ℕ) → member ran
   unfolding rowAt
   distinct = row-distinct (A .who s) (members (ableOf c)) (members-distinct (ableOf c))
 
-  row-few : length (rowAt A s c) ≤ 8
+  row-few : length (rowAt A s c) ≤ maxWidth
   unfolding ableOf
-  row-few = rw (length-range 8 0) at (pigeonhole (rowAt A s c) (range 8 0) distinct
-      (λ p m. range-below 8 p .1 (eight p (candidates-held A s done ran p (in-union (c .forced) (c .tied) p .0 (in-row-at A s c p .0 m .1))))))
+  row-few = rw (length-range maxWidth 0) at (pigeonhole (rowAt A s c) (range maxWidth 0) distinct
+      (λ p m. range-below maxWidth p .1 (eight p (candidates-held A s done ran p (in-union (c .forced) (c .tied) p .0 (in-row-at A s c p .0 m .1))))))
 
-  fit-few : fitOf (candidatesAt A s done ran) ≤ 8
+  fit-few : fitOf (candidatesAt A s done ran) ≤ maxWidth
   unfolding fitOf
   fit-few = omega (
     arith,
@@ -99,5 +100,5 @@ module _ (A : Tables) (s : ℕ) (done ran : Set) (low : (p : ℕ) → member ran
         (λ p m. in-able p (inl m)) (λ k m. let w = ties-at A s done ran low .taker-of k m in (w .0, in-able (w .0) (inr (w .1)), w .1, w .2)),
   )
 
-  pub found-few : fitOf (plain (foundAt A s (carried A s done) done ran)) ≤ 8
+  pub found-few : fitOf (plain (foundAt A s (carried A s done) done ran)) ≤ maxWidth
   found-few = rw (plain-found A s done ran) fit-few

@@ -10,6 +10,7 @@ use native.Mathlib.Decide.{ℕ-discrete}
 use lib.Dec.{ltb}
 use lib.ListN.{length, set}
 use lib.Seq.{getD-set-same, getD-set-other}
+use Rattle.rules.specs.Sizes.{maxWidth}
 use Rattle.rules.specs.Basics.{choose, at, range, Distinct}
 use Rattle.laws.specs.Tests.{T-ltb, by-choice}
 use Rattle.laws.specs.Counting.{pigeonhole, range-below, length-range}
@@ -46,7 +47,7 @@ pub record Listable (who : ℕ → ℕ) (places : Set) : Type 0 where
 
 -- the first `count` numbers of the array are the places by falling job number
 pub record Listed (who : ℕ → ℕ) (places : Set) (row : List ℕ) (count : ℕ) : Type 0 where
-  pub few : count ≤ 8
+  pub few : count ≤ maxWidth
   pub row-is : rowFrom row count ≡ byNumber who (members places)
 
 -- ---- lists by job number
@@ -55,8 +56,8 @@ sorted-distinct : (who : ℕ → ℕ) (ps : List ℕ) → Sorted who ps → Dist
 sorted-distinct who [] s = tt
 sorted-distinct who (p ∷ ps) s = (λ m. omega (arith, s .0 p m), sorted-distinct who ps (s .1))
 
-sorted-few : (who : ℕ → ℕ) (ps : List ℕ) → Sorted who ps → ((p : ℕ) → List·Memᴰ p ps → p < 8) → length ps ≤ 8
-sorted-few who ps s f = rw (length-range 8 0) at (pigeonhole ps (range 8 0) (sorted-distinct who ps s) (λ p m. range-below 8 p .1 (f p m)))
+sorted-few : (who : ℕ → ℕ) (ps : List ℕ) → Sorted who ps → ((p : ℕ) → List·Memᴰ p ps → p < maxWidth) → length ps ≤ maxWidth
+sorted-few who ps s f = rw (length-range maxWidth 0) at (pigeonhole ps (range maxWidth 0) (sorted-distinct who ps s) (λ p m. range-below maxWidth p .1 (f p m)))
 
 -- two with the same places are the same
 sorted-same : (who : ℕ → ℕ) (ps qs : List ℕ) → Sorted who ps → Sorted who qs → ((x : ℕ) → List·Memᴰ x ps ↔ List·Memᴰ x qs) → ps ≡ qs
@@ -180,7 +181,7 @@ module _ {who : ℕ → ℕ} {places : Set} (able : Listable who places) where
       more : Sorted who (p ∷ rowFrom row count)
       more = (λ q m. g .above p q (l .is-member) m, g .sorted)
 
-      pub listing-room : count < 8
+      pub listing-room : count < maxWidth
       unfolding Subset
       listing-room = rw (row-length row count) at (sorted-few who (p ∷ rowFrom row count) more
           (λ q m. ⊎-elim (λ e. rw e (listing-eight p (l .is-member))) (λ k. able .eight q (g .within q k)) (List·Memᴰ·cases-cons m)))
@@ -212,7 +213,7 @@ module _ {who : ℕ → ℕ} {places : Set} (able : Listable who places) where
       pub listing-next : count < length row → Listing who places (set row count p) (count + 1) (without rest p)
       listing-next h = fronted (set row count p) (count + 1) (ap (rowFrom (set row count p)) (add-one count) ∙ row-next row count p h)
 
-    pub listing-end : count ≤ 8 → rest ≡ empty → Listed who places row count
+    pub listing-end : count ≤ maxWidth → rest ≡ empty → Listed who places row count
     listing-end h e = record {
       few = h;
       row-is = sorted-same who (rowFrom row count) (byNumber who (members places)) (g .sorted)

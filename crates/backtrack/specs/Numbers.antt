@@ -11,6 +11,7 @@ use native.Mathlib.Omega.{arith}
 use lib.Count.{trailingZeros}
 use lib.Dec.{T, eqb, ltb, leb}
 use lib.ListN.{length, length-map}
+use Rattle.rules.specs.Sizes.{maxWidth}
 use Rattle.rules.specs.Basics.{choose, at, all, range}
 use Rattle.laws.specs.Tests.{T-all, T-eqb, tests}
 use Rattle.laws.specs.Counting.{range-below}
@@ -19,6 +20,7 @@ use Rattle.jobset.specs.Sets.{digit, member, intersection, isEmpty, lowest}
 use Rattle.jobset.specs.Tests.{absent, present}
 use Rattle.places.specs.Rows.{bit-low, chosen, picks, isTry, triedBelow}
 use Rattle.backtrack.specs.Listing.{rowFrom, row-length}
+use Rattle.layout.specs.Layout.{placeSets}
 
 -- the members of x below k, falling
 unfoldable pub fallingFrom : ℕ → Set → List ℕ
@@ -45,7 +47,7 @@ few-falling (suc k) x = go (member x k) (few-falling k x)
 
 -- the digits 1 of a number below 256
 unfoldable pub digitsOf : ℕ → ℕ
-digitsOf n = length (fallingFrom 8 (record { bits = n }))
+digitsOf n = length (fallingFrom maxWidth (record { bits = n }))
 
 -- one more than the highest number below b with just so many digits 1; 0 where there is none
 unfoldable pub endBelow : ℕ → ℕ → ℕ
@@ -139,21 +141,21 @@ falling-low m (suc k) x l h = go (ℕ-discrete m (suc k)) (falling-low m k x)
     go (no n) r = rw (absent (member x k) (λ w. omega (arith, bit-low x m k h w))) (r (omega arith) h)
 
 -- the places behind those of a row do not matter
-pub chosen-low : (a : List ℕ) (m : ℕ) (x : Set) → m ≤ 8 → x .bits < 2 ^ m → chosen (rowFrom a 8) x ≡ chosen (rowFrom a m) x
-chosen-low a m x l h = chosen-falling a 8 x ∙ ap (map (at a)) (falling-low m 8 x l h) ∙ sym (chosen-falling a m x)
+pub chosen-low : (a : List ℕ) (m : ℕ) (x : Set) → m ≤ maxWidth → x .bits < 2 ^ m → chosen (rowFrom a maxWidth) x ≡ chosen (rowFrom a m) x
+chosen-low a m x l h = chosen-falling a maxWidth x ∙ ap (map (at a)) (falling-low m maxWidth x l h) ∙ sym (chosen-falling a m x)
 
 -- they are as many as its digits 1
-pub chosen-many : (a : List ℕ) (n : ℕ) → length (picks (rowFrom a 8) n) ≡ digitsOf n
+pub chosen-many : (a : List ℕ) (n : ℕ) → length (picks (rowFrom a maxWidth) n) ≡ digitsOf n
 unfolding digitsOf
-chosen-many a n = ap length (chosen-falling a 8 (record { bits = n })) ∙ length-map (fallingFrom 8 (record { bits = n })) (at a)
+chosen-many a n = ap length (chosen-falling a maxWidth (record { bits = n })) ∙ length-map (fallingFrom maxWidth (record { bits = n })) (at a)
 
-digits-few : (m n : ℕ) → m ≤ 8 → n < 2 ^ m → digitsOf n ≤ m
+digits-few : (m n : ℕ) → m ≤ maxWidth → n < 2 ^ m → digitsOf n ≤ m
 unfolding digitsOf
-digits-few m n l h = rw (falling-low m 8 (record { bits = n }) l h) (few-falling m (record { bits = n }))
+digits-few m n l h = rw (falling-low m maxWidth (record { bits = n }) l h) (few-falling m (record { bits = n }))
 
 -- ---- the tries by other numbers
 
-module _ (near : ℕ → Set) (a : List ℕ) (m count : ℕ) (l : m ≤ 8) where
+module _ (near : ℕ → Set) (a : List ℕ) (m count : ℕ) (l : m ≤ maxWidth) where
   not-many : (n : ℕ) → n < 2 ^ m → eqb (digitsOf n) count ≡ false → isTry near count (picks (rowFrom a m) n) ≡ false
   unfolding isTry
   not-many n h e = rw (← (chosen-low a m (record { bits = n }) l h), chosen-many a n, e)
@@ -164,7 +166,8 @@ module _ (near : ℕ → Set) (a : List ℕ) (m count : ℕ) (l : m ≤ 8) where
   tried-end zero h = refl
   tried-end (suc n) h = go (eqb (digitsOf n) count) refl (tried-end n)
     where
-      go : (t : Bool) → eqb (digitsOf n) count ≡ t → (n ≤ 2 ^ m → triedBelow near (rowFrom a m) count (endBelow count n) ≡ triedBelow near (rowFrom a m) count n)
+      go : (t : Bool) → eqb (digitsOf n) count ≡ t
+          → (n ≤ 2 ^ m → triedBelow near (rowFrom a m) count (endBelow count n) ≡ triedBelow near (rowFrom a m) count n)
           → triedBelow near (rowFrom a m) count (choose t (suc n) (endBelow count n)) ≡ triedBelow near (rowFrom a m) count (suc n)
       go true e r = refl
       go false e r = rw (not-many n (omega arith) e) (r (omega arith))
@@ -172,7 +175,7 @@ module _ (near : ℕ → Set) (a : List ℕ) (m count : ℕ) (l : m ≤ 8) where
 -- ---- as the code finds it
 
 -- below 2 ^ size, where a number of so many digits has so many
-pub end-first : (size count : ℕ) → size ≤ 8 → count ≤ size → endBelow count (2 ^ size) ≡ 2 ^ size - 2 ^ (size - count) + 1
+pub end-first : (size count : ℕ) → size ≤ maxWidth → count ≤ size → endBelow count (2 ^ size) ≡ 2 ^ size - 2 ^ (size - count) + 1
 end-first size count h l =
     T-eqb (end size count) (from size count) .0
     (T-all (λ k. eqb (end size k) (from size k)) (range (suc size) 0) .0
@@ -188,7 +191,7 @@ end-first size count h l =
     passes : T (all (λ m. all (λ k. eqb (end m k) (from m k)) (range (suc m) 0)) (range 9 0))
     passes = unfold all range endBelow digitsOf fallingFrom member digit choose in tt
 
-pub end-too-many : (size count : ℕ) → size ≤ 8 → size < count → endBelow count (2 ^ size) ≡ 0
+pub end-too-many : (size count : ℕ) → size ≤ maxWidth → size < count → endBelow count (2 ^ size) ≡ 0
 end-too-many size count h l = end-none count (2 ^ size) (λ n k e. omega (arith, digits-few size n h k))
 
 -- below a number with as many as it has. One more than n has the lowest 0 of n and no 1 below it; `upper` is n without its digits 1 below that
@@ -219,14 +222,14 @@ isNext : ℕ → Bool
 isNext n = choose (isEmpty (upper n)) (eqb (endBelow (digitsOf n) n) 0) (moves n)
 
 -- one test over all numbers
-all-next : T (all isNext (range 256 0))
+all-next : T (all isNext (range placeSets 0))
 unfolding all range isNext moves endBelow digitsOf fallingFrom member digit choose intersection isEmpty lowest trailingZeros
 all-next = tt
 
-module _ (n : ℕ) (h : n < 256) where
+module _ (n : ℕ) (h : n < placeSets) where
   passes : ((isEmpty (upper n) ≡ true) → endBelow (digitsOf n) n ≡ 0) × ((isEmpty (upper n) ≡ false) → T (moves n))
   unfolding isNext choose
-  passes = go (isEmpty (upper n)) (T-all isNext (range 256 0) .0 all-next n (range-below 256 n .1 h))
+  passes = go (isEmpty (upper n)) (T-all isNext (range placeSets 0) .0 all-next n (range-below placeSets n .1 h))
     where
       go : (b : Bool) → T (choose b (eqb (endBelow (digitsOf n) n) 0) (moves n)) → (b ≡ true → endBelow (digitsOf n) n ≡ 0) × (b ≡ false → T (moves n))
       go true t = (λ _. T-eqb (endBelow (digitsOf n) n) 0 .0 t, λ e. absurd (true≢false e))

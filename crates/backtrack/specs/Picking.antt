@@ -6,6 +6,7 @@ use mathlib.Core.Bool.{Bool, true, false, _&&_, true≢false}
 use mathlib.Core.List.{List, [], _∷_, map, List·Memᴰ, List·Memᴰ·head, List·Memᴰ·tail, List·Memᴰ·cases-cons, List·Memᴰ·not-nil}
 use Prim.Native.Nat.{ℕ, _<_}
 use native.Mathlib.Omega.{arith}
+use Rattle.rules.specs.Sizes.{maxWidth}
 use Rattle.rules.specs.Basics.{choose, at, Distinct}
 use Rattle.laws.specs.Lists.{map-mem, map-mem⁻¹}
 use Rattle.laws.specs.Counting.{map-distinct}
@@ -18,6 +19,7 @@ use Rattle.places.specs.Rows.{bit-low, empty-says, chosen, placesOf, in-places,
 use Rattle.places.specs.Fit.{members-distinct}
 use Rattle.backtrack.specs.Listing.{rowFrom}
 use Rattle.backtrack.specs.Numbers.{fallingFrom, none-falling, chosen-falling, in-falling}
+use Rattle.layout.specs.Layout.{placeSets}
 
 -- the places of a list one after the other; `places` and `givers` are those so far
 unfoldable pub pickFrom : (ℕ → Set) → Set → Set → List ℕ → Set
@@ -83,32 +85,32 @@ injective f (z ∷ l) d x y m n e = go (List·Memᴰ·cases-cons m) (List·Mem�
     go (inr a) (inl b) r = absurd (clash x a (ap f (sym b) ∙ sym e))
     go (inr a) (inr b) r = r a b e
 
-module _ (near : ℕ → Set) (row : List ℕ) (number : Set) (low : number .bits < 256) (d : Distinct (chosen (rowFrom row 8) number)) where
+module _ (near : ℕ → Set) (row : List ℕ) (number : Set) (low : number .bits < placeSets) (d : Distinct (chosen (rowFrom row maxWidth) number)) where
   -- the places, and those in the order of the code
   abbrev ps : List ℕ
-  ps = chosen (rowFrom row 8) number
+  ps = chosen (rowFrom row maxWidth) number
 
   abbrev qs : List ℕ
   qs = map (at row) (members number)
 
-  digit-in : (k : ℕ) → member number k ≡ true → List·Memᴰ k (fallingFrom 8 number)
-  digit-in k m = in-falling 8 number k .1 (bit-low number 8 k low m, m)
+  digit-in : (k : ℕ) → member number k ≡ true → List·Memᴰ k (fallingFrom maxWidth number)
+  digit-in k m = in-falling maxWidth number k .1 (bit-low number maxWidth k low m, m)
 
   -- the place at a digit
-  pub place-in : (k : ℕ) → member number k ≡ true → List·Memᴰ (at row k) (chosen (rowFrom row 8) number)
-  place-in k m = rw (chosen-falling row 8 number) (map-mem (at row) (fallingFrom 8 number) k (digit-in k m))
+  pub place-in : (k : ℕ) → member number k ≡ true → List·Memᴰ (at row k) (chosen (rowFrom row maxWidth) number)
+  place-in k m = rw (chosen-falling row maxWidth number) (map-mem (at row) (fallingFrom maxWidth number) k (digit-in k m))
 
   same-places : (p : ℕ) → List·Memᴰ p qs ↔ List·Memᴰ p ps
   same-places p = (
     map-mem⁻¹ (λ x. List·Memᴰ x ps) (at row) (members number) (λ k m. place-in k (in-members number k .0 m .1)) p,
-    λ m. map-mem⁻¹ (λ x. List·Memᴰ x qs) (at row) (fallingFrom 8 number)
-        (λ k w. let v = in-falling 8 number k .0 w in map-mem (at row) (members number) k (in-members number k .1 (omega arith, v .1)))
-        p (rw (chosen-falling row 8 number) at m),
+    λ m. map-mem⁻¹ (λ x. List·Memᴰ x qs) (at row) (fallingFrom maxWidth number)
+        (λ k w. let v = in-falling maxWidth number k .0 w in map-mem (at row) (members number) k (in-members number k .1 (omega arith, v .1)))
+        p (rw (chosen-falling row maxWidth number) at m),
   )
 
   other-distinct : Distinct qs
   other-distinct = map-distinct (at row) (members number) (members-distinct number)
-      (λ x y m n. injective (at row) (fallingFrom 8 number) (rw (chosen-falling row 8 number) at d) x y
+      (λ x y m n. injective (at row) (fallingFrom maxWidth number) (rw (chosen-falling row maxWidth number) at d) x y
       (digit-in x (in-members number x .0 m .1)) (digit-in y (in-members number y .0 n .1)))
 
   same-fits : fitting near empty qs ≡ fitting near empty ps
@@ -120,7 +122,8 @@ module _ (near : ℕ → Set) (row : List ℕ) (number : Set) (low : number .bit
       (λ e. g .1 (λ p q k m n. f .0 e p q k (same-places p .0 m) (same-places q .0 n)))
 
   -- no two share a giver: they are the places
-  pub picked-places : fitting near empty (chosen (rowFrom row 8) number) ≡ true → pickedOf near row number ≡ placesOf (chosen (rowFrom row 8) number)
+  pub picked-places : fitting near empty (chosen (rowFrom row maxWidth) number) ≡ true → pickedOf near row number
+      ≡ placesOf (chosen (rowFrom row maxWidth) number)
   unfolding pickedOf
   picked-places e = set-ext (pickFrom near empty empty qs) (placesOf ps) (λ k.
       let w = from-fits near qs empty empty k (same-fits ∙ e) in
@@ -129,12 +132,12 @@ module _ (near : ℕ → Set) (row : List ℕ) (number : Set) (low : number .bit
       (λ m. w .1 (inr (same-places k .1 (in-places ps k .0 m)))))
 
   -- two do, where the number has digits and nothing is taken
-  pub picked-shared : isEmpty (pickedOf near row number) ≡ true → isEmpty number ≡ false → fitting near empty (chosen (rowFrom row 8) number) ≡ false
+  pub picked-shared : isEmpty (pickedOf near row number) ≡ true → isEmpty number ≡ false → fitting near empty (chosen (rowFrom row maxWidth) number) ≡ false
   picked-shared e n = absent (fitting near empty ps) (λ f. present (isEmpty number) (empty-says number .1 (λ k m.
       empty-says (placesOf ps) .0 (ap isEmpty (sym (picked-places f)) ∙ e) (at row k) (in-places ps (at row k) .1 (place-in k m)))) n)
 
   -- none do, where something is taken or the number has none
-  pub picked-fits : (isEmpty (pickedOf near row number) ≡ false) ⊎ (isEmpty number ≡ true) → fitting near empty (chosen (rowFrom row 8) number) ≡ true
+  pub picked-fits : (isEmpty (pickedOf near row number) ≡ false) ⊎ (isEmpty number ≡ true) → fitting near empty (chosen (rowFrom row maxWidth) number) ≡ true
   unfolding pickedOf fitting isEmpty
   picked-fits (inl n) = go (fitting near empty ps) refl
     where
@@ -142,6 +145,6 @@ module _ (near : ℕ → Set) (row : List ℕ) (number : Set) (low : number .bit
       go true e = refl
       go false e = absurd (present (isEmpty empty) refl (ap isEmpty (sym (from-shared near qs empty empty (same-fits ∙ e))) ∙ n))
   picked-fits (inr z) =
-      let e : ps ≡ [] = chosen-falling row 8 number
-      ∙ ap (map (at row)) (none-falling 8 number (λ k _. absent (member number k) (empty-says number .0 z k))) in
+      let e : ps ≡ [] = chosen-falling row maxWidth number
+      ∙ ap (map (at row)) (none-falling maxWidth number (λ k _. absent (member number k) (empty-says number .0 z k))) in
       rw e refl

@@ -5,6 +5,7 @@ use mathlib.Core.Bool.{Bool, true, _&&_}
 use mathlib.Core.List.{List, [], _∷_, List·Memᴰ}
 use Prim.Native.Nat.{ℕ, _+_, _-_, _*_, _≤_, _<_}
 use lib.ListN.{length, set}
+use Rattle.rules.specs.Sizes.{maxLimit}
 use Rattle.rules.specs.Basics.{choose, Distinct}
 use Rattle.jobset.specs.declared.Set.{Set}
 use Rattle.jobset.specs.Sets.{member, union, minus, isSubset, Subset}
@@ -22,7 +23,7 @@ use Rattle.backtrack.specs.Choosing.{setsOf}
 -- tables that can be searched with a bitmap of so many bytes: rows of marks that fit, the base-three numbers, and in each slot places with
 -- different jobs
 pub record Searchable (words : List ℕ) (bytes : ℕ) : Type 0 where
-  pub few : slotsIn words ≤ 64
+  pub few : slotsIn words ≤ maxLimit
   pub rows : Rows (tablesIn words) (marksIn words) (slotsIn words)
   pub room : marksIn words (slotsIn words) ≤ 8 * bytes
   pub threes : ThreesIn words

@@ -27,7 +27,13 @@ abbrev withForced : Found → ℕ → Found
 withForced c p = record { forced = with (c .forced) p; tied = c .tied; tying = c .tying; shared = c .shared }
 
 abbrev withTied : Found → ℕ → Set → Found
-withTied c p near = record { forced = c .forced; tied = with (c .tied) p; tying = union (c .tying) near; shared = union (c .shared) (intersection (c .tying) near) }
+withTied c p near = record {
+  forced = c .forced;
+  tied = with (c .tied) p;
+  tying = union (c .tying) near;
+  shared = union (c .shared)
+      (intersection (c .tying) near);
+}
 
 -- one more place, with its job's givers
 unfoldable pub sortPlace : Set → Set → ℕ → Set → Found → Found

@@ -7,6 +7,7 @@ use Prim.Native.Nat.{ℕ, zero, suc, _+_, _-_, _*_, _^_, _≤_, _<_}
 use native.Mathlib.Omega.{arith}
 use lib.Dec.{ltb}
 use lib.ListN.{length}
+use Rattle.rules.specs.Sizes.{maxWidth}
 use Rattle.laws.specs.Tests.{by-choice}
 use Rattle.jobset.specs.declared.Set.{Set}
 use Rattle.jobset.specs.Sets.{member, empty, union, isSubset, isEmpty, Subset}
@@ -98,7 +99,7 @@ module _ {words : List ℕ} {bytes s : ℕ} {done ran : Set} (o : Opened words b
       (λ _. (empty-subset (A .held s), able-held))
       (λ _. (unfold Subset in λ p m. candidate-held p (inl m), unfold Subset in λ p m. candidate-held p (inr m)))
 
-  pub fit-eight : fitOf (plain (foundIn words s done ran)) ≤ 8
+  pub fit-eight : fitOf (plain (foundIn words s done ran)) ≤ maxWidth
   fit-eight = found-few A s done ran ran-low held-eight
 
   -- every set tried is one of candidates

@@ -9,6 +9,7 @@ use native.Mathlib.Numerals.{add-one}
 use native.Mathlib.Omega.{arith}
 use lib.Dec.{eqb}
 use lib.ListN.{length, set}
+use Rattle.rules.specs.Sizes.{maxWidth}
 use Rattle.rules.specs.Basics.{choose}
 use Rattle.laws.specs.Tests.{by-choice}
 use Rattle.jobset.specs.declared.Set.{Set}
@@ -290,7 +291,7 @@ unfolding rowBelow choiceTries setsOf
 all-numbers words s here ran c row dead e = rw e
 
 -- the numbers with just as many digits 1 as the choice says are enough
-module _ (words : List ℕ) (s : ℕ) (here ran : Set) (c : Choice) (a : List ℕ) (size : ℕ) (few : size ≤ 8) where
+module _ (words : List ℕ) (s : ℕ) (here ran : Set) (c : Choice) (a : List ℕ) (size : ℕ) (few : size ≤ maxWidth) where
   enough : (n : ℕ) (dead : List ℕ) → n ≤ 2 ^ size
       → belowIn words s here ran c (rowFrom a size) (endBelow (c .count) n) dead ≡ belowIn words s here ran c (rowFrom a size) n dead
   unfolding rowBelow
@@ -313,9 +314,9 @@ module _ (words : List ℕ) (s : ℕ) (here ran : Set) (c : Choice) (a : List �
       ∙ all-numbers words s here ran c (rowFrom a size) dead e
 
 -- what a number takes are places of the slot
-module _ (A : Tables) (s : ℕ) (c : Choice) (a : List ℕ) (size : ℕ) (few : size ≤ 8) (e : rowFrom a size ≡ rowOf A s (c .among)) where
+module _ (A : Tables) (s : ℕ) (c : Choice) (a : List ℕ) (size : ℕ) (few : size ≤ maxWidth) (e : rowFrom a size ≡ rowOf A s (c .among)) where
   pub takes-of : (n : ℕ) → n < 2 ^ size → digitsOf n ≡ c .count → Subset (c .forced) (A .held s) → Subset (c .among) (A .held s)
-      → Takes (A .held s) c (picks (rowFrom a 8) n)
+      → Takes (A .held s) c (picks (rowFrom a maxWidth) n)
   unfolding rowOf Subset
   takes-of n l many f among = record {
     forced-held = f;
@@ -328,5 +329,5 @@ module _ (A : Tables) (s : ℕ) (c : Choice) (a : List ℕ) (size : ℕ) (few : 
       x : Set
       x = record { bits = n }
 
-      low : chosen (rowFrom a 8) x ≡ chosen (rowFrom a size) x
+      low : chosen (rowFrom a maxWidth) x ≡ chosen (rowFrom a size) x
       low = chosen-low a size x few l

@@ -3,7 +3,7 @@
 //
 // A state before slot s is `done` and `ran`, sets of places of the slot before: done by its end, and ran in it. `here` is what of `done` has its
 // window still open in slot s: a set of places of slot s, as is all that is tried there. No set of places outlives its slot.
-// The tables are those of crate seats.
+// The tables are those of crate layout.
 use jobset::Set;
 use layout::CAP;
 use layout::DUE;
@@ -23,6 +23,7 @@ ghost use mathlib.Core.Bool.{true, false};
 ghost use Prim.Native.Nat.{_-_, _*_, _^_, _<_, _≤_};
 ghost use lib.Dec.{ltb};
 ghost use lib.ListN.{length};
+ghost use Rattle.rules.specs.Sizes.{maxLimit, maxWidth};
 ghost use Rattle.rules.specs.Basics.{at};
 ghost use Rattle.jobset.specs.Sets.{member, isEmpty, isSubset, Subset};
 ghost use Rattle.threes.specs.Threes.{Eight};
@@ -30,7 +31,7 @@ ghost use Rattle.places.specs.Rows.{chosen};
 ghost use Rattle.places.specs.Slot.{carried, nearAt, fitOf};
 ghost use Rattle.places.specs.Model.{key};
 ghost use Rattle.places.specs.Memo.{Reached};
-ghost use Rattle.layout.specs.Layout.{tablesIn, marksIn, ThreesIn};
+ghost use Rattle.layout.specs.Layout.{tablesIn, marksIn, ThreesIn, placeSets};
 ghost use Rattle.backtrack.specs.Entries.{slotsIn, capIn};
 ghost use Rattle.backtrack.specs.Sorting.{plain, sortPlace, foundAt};
 ghost use Rattle.backtrack.specs.Choosing.{choiceOf};
@@ -60,7 +61,7 @@ struct Choice {
 
 // The givers in the slot before of the job at place p of the slot.
 fn givers_at(tables: &[u16; TABLES], slot: usize, p: usize) -> Set
-    requires { ⌜ (slot < 64) × (p < 64) ⌝ }
+    requires { ⌜ (slot < maxLimit) × (p < 64) ⌝ }
     ensures { λ r. ⌜ r ≡ tablesIn (now (tables .entry)) .prev slot p ⌝ }
 {
     set_at(tables, PREV + PLACES * slot + p)
@@ -100,7 +101,7 @@ fn sort_place(c: Found, givers: Set, done: Set, ran: Set, p: usize) -> Found
 
 // The candidates of a slot: of its places that are not done.
 fn candidates_at(tables: &[u16; TABLES], slot: usize, here: Set, done: Set, ran: Set) -> Found
-    requires { ⌜ slot < 64 ⌝ }
+    requires { ⌜ slot < maxLimit ⌝ }
     ensures { λ r. ⌜ r ≡ foundAt (tablesIn (now (tables .entry))) slot here done ran ⌝ }
 {
     let held = set_at(tables, HELD + slot);
@@ -119,9 +120,9 @@ fn candidates_at(tables: &[u16; TABLES], slot: usize, here: Set, done: Set, ran:
     c
 }
 
-// Do so many jobs, all that fit into the slot, exceed the cap? (No slot has more than PLACES.)
+// Do the jobs that fit into the slot, every forced one and one for each tying giver, exceed the cap? (They are at most PLACES.)
 fn exceeds(tables: &[u16; TABLES], c: Found) -> bool
-    requires { ⌜ fitOf (plain c) ≤ 8 ⌝ }
+    requires { ⌜ fitOf (plain c) ≤ maxWidth ⌝ }
     ensures { λ r. ⌜ r ≡ ltb (capIn (now (tables .entry))) (fitOf (plain c)) ⌝ }
 {
     let cap = fields::index(tables[CAP]);
@@ -135,7 +136,7 @@ fn exceeds(tables: &[u16; TABLES], c: Found) -> bool
 
 // What the slot tries: every forced candidate, and one for each tying giver; or, where that exceeds the cap, as many of all candidates.
 fn choice_of(tables: &[u16; TABLES], c: Found) -> Choice
-    requires { ⌜ fitOf (plain c) ≤ 8 ⌝ }
+    requires { ⌜ fitOf (plain c) ≤ maxWidth ⌝ }
     ensures { λ r. ⌜ r ≡ choiceOf (capIn (now (tables .entry))) c ⌝ }
 {
     let forced = c.forced;
@@ -159,7 +160,7 @@ fn choice_of(tables: &[u16; TABLES], c: Found) -> Choice
 
 // Of two places of a slot the one with the higher job.
 fn later(tables: &[u16; TABLES], slot: usize, p: usize, q: usize) -> usize
-    requires { ⌜ (slot < 64) × (p < 8) × (q < 8) ⌝ }
+    requires { ⌜ (slot < maxLimit) × (p < maxWidth) × (q < maxWidth) ⌝ }
     ensures { λ r. ⌜ r ≡ laterOf (tablesIn (now (tables .entry)) .who slot) p q ⌝ }
 {
     let first = WHO + PLACES * slot;
@@ -171,7 +172,7 @@ fn later(tables: &[u16; TABLES], slot: usize, p: usize, q: usize) -> usize
 
 // The place with the highest job of a set that is not empty.
 fn last_place(tables: &[u16; TABLES], slot: usize, places: Set) -> usize
-    requires { ⌜ (slot < 64) × Eight places × (isEmpty places ≡ false) ⌝ }
+    requires { ⌜ (slot < maxLimit) × Eight places × (isEmpty places ≡ false) ⌝ }
     ensures { λ r. ⌜ Last (tablesIn (now (tables .entry)) .who slot) places r ⌝ }
 {
     let mut last = places.lowest() as usize;
@@ -185,7 +186,7 @@ fn last_place(tables: &[u16; TABLES], slot: usize, places: Set) -> usize
 
 // The places of a set by falling job number; gives how many.
 pub fn by_number(tables: &[u16; TABLES], slot: usize, places: Set, row: &mut [u8; PLACES]) -> usize
-    requires { ⌜ (slot < 64) × (length (now row) ≡ 8) × Listable (tablesIn (now tables) .who slot) places ⌝ }
+    requires { ⌜ (slot < maxLimit) × (length (now row) ≡ maxWidth) × Listable (tablesIn (now tables) .who slot) places ⌝ }
     ensures { λ r. ⌜ Listed (tablesIn (now (tables .entry)) .who slot) places (now (row .exit)) r ⌝ }
 {
     let mut rest = places;
@@ -204,7 +205,7 @@ pub fn by_number(tables: &[u16; TABLES], slot: usize, places: Set, row: &mut [u8
 // The numbers with just so many binary digits 1 are tried from the highest down. An end is one more than the next of them, and 0 where there is
 // none: here that of those below 1 << size.
 fn first_end(size: usize, count: usize) -> u64
-    requires { ⌜ size ≤ 8 ⌝ }
+    requires { ⌜ size ≤ maxWidth ⌝ }
     ensures { λ r. ⌜ r ≡ endBelow count (2 ^ size) ⌝ }
 {
     if size < count {
@@ -216,7 +217,7 @@ fn first_end(size: usize, count: usize) -> u64
 // The end of those below a number with as many digits 1. The number and one more have in common what is above its lowest 0; the lowest 1 of
 // that moves down by one, and the ones below the 0 follow right behind it.
 fn next_end(number: Set) -> u64
-    requires { ⌜ number .bits < 256 ⌝ }
+    requires { ⌜ number .bits < placeSets ⌝ }
     ensures { λ r. ⌜ r ≡ endBelow (digitsOf (number .bits)) (number .bits) ⌝ }
 {
     let above = Set {
@@ -232,7 +233,7 @@ fn next_end(number: Set) -> u64
 
 // What a number takes of the row, place k where it has the binary digit k; nothing where two of them share a giver in the slot before.
 fn pick(tables: &[u16; TABLES], slot: usize, ran: Set, row: &[u8; PLACES], number: Set) -> Set
-    requires { ⌜ (slot < 64) × ((k : _) → member number k ≡ true → (k < 8) × (at (now row) k < 64)) ⌝ }
+    requires { ⌜ (slot < maxLimit) × ((k : _) → member number k ≡ true → (k < maxWidth) × (at (now row) k < 64)) ⌝ }
     ensures { λ r. ⌜ r ≡ pickedOf (nearAt (tablesIn (now (tables .entry))) slot ran) (now (row .entry)) number ⌝ }
 {
     let mut rest = number;
@@ -264,7 +265,7 @@ fn first_mark(byte: u16) -> usize
 
 // The mark of a state.
 fn key_of(tables: &[u16; TABLES], slot: usize, done: Set, ran: Set) -> usize
-    requires { ⌜ (slot ≤ 64) × Eight done × Eight ran × ThreesIn (now tables) ⌝ }
+    requires { ⌜ (slot ≤ maxLimit) × Eight done × Eight ran × ThreesIn (now tables) ⌝ }
     ensures { λ r. ⌜ r ≡ key (marksIn (now (tables .entry))) slot done ran ⌝ }
 {
     let row = first_mark(tables[MARKS + slot]);
@@ -282,8 +283,10 @@ fn try_set(
     slot: usize,
     path: &mut [u8; MAX_SLOTS],
 ) -> bool
-    requires { ⌜ InSlot (now tables) (length (now dead)) slot here × Subset places (tablesIn (now tables) .held slot) × (isSubset (mustAt (now tables) slot here) places ≡ true) ⌝ }
-    ensures { λ r. ⌜ Told slot (attempted (now (tables .entry)) slot here places (now (dead .entry))) (now (path .entry)) r (now (path .exit)) (now (dead .exit)) ⌝ }
+    requires { ⌜ InSlot (now tables) (length (now dead)) slot here × Subset places (tablesIn (now tables) .held slot)
+        × (isSubset (mustAt (now tables) slot here) places ≡ true) ⌝ }
+    ensures { λ r. ⌜ Told slot (attempted (now (tables .entry)) slot here places (now (dead .entry))) (now (path .entry)) r (now (path .exit))
+        (now (dead .exit)) ⌝ }
 {
     if explore(tables, dead, here.union(places), places, slot + 1, path) {
         path[slot] = places.bits as u8;
@@ -305,8 +308,10 @@ fn try_number(
     row: &[u8; PLACES],
     number: Set,
 ) -> bool
-    requires { ⌜ InSlot (now tables) (length (now dead)) slot here × (must ≡ mustAt (now tables) slot here) × (number .bits < 256) × Takes (tablesIn (now tables) .held slot) c (chosen (rowFrom (now row) 8) number) ⌝ }
-    ensures { λ r. ⌜ Told slot (numbered (now (tables .entry)) slot here ran c (rowFrom (now (row .entry)) 8) number (now (dead .entry))) (now (path .entry)) r (now (path .exit)) (now (dead .exit)) ⌝ }
+    requires { ⌜ InSlot (now tables) (length (now dead)) slot here × (must ≡ mustAt (now tables) slot here) × (number .bits < placeSets)
+        × Takes (tablesIn (now tables) .held slot) c (chosen (rowFrom (now row) maxWidth) number) ⌝ }
+    ensures { λ r. ⌜ Told slot (numbered (now (tables .entry)) slot here ran c (rowFrom (now (row .entry)) maxWidth) number (now (dead .entry)))
+        (now (path .entry)) r (now (path .exit)) (now (dead .exit)) ⌝ }
 {
     let picked = pick(tables, slot, ran, row, number);
     if picked.is_empty() {
@@ -333,8 +338,10 @@ fn try_row(
     c: Choice,
     must: Set,
 ) -> bool
-    requires { ⌜ InSlot (now tables) (length (now dead)) slot here × (must ≡ mustAt (now tables) slot here) × Subset (c .forced) (tablesIn (now tables) .held slot) × Subset (c .among) (tablesIn (now tables) .held slot) ⌝ }
-    ensures { λ r. ⌜ Told slot (choiceTries (now (tables .entry)) slot here ran c (now (dead .entry))) (now (path .entry)) r (now (path .exit)) (now (dead .exit)) ⌝ }
+    requires { ⌜ InSlot (now tables) (length (now dead)) slot here × (must ≡ mustAt (now tables) slot here)
+        × Subset (c .forced) (tablesIn (now tables) .held slot) × Subset (c .among) (tablesIn (now tables) .held slot) ⌝ }
+    ensures { λ r. ⌜ Told slot (choiceTries (now (tables .entry)) slot here ran c (now (dead .entry))) (now (path .entry)) r (now (path .exit))
+        (now (dead .exit)) ⌝ }
 {
     let mut row = [0; PLACES];
     let size = by_number(tables, slot, c.among, &mut row);
@@ -398,7 +405,9 @@ pub fn explore(
     slot: usize,
     path: &mut [u8; MAX_SLOTS],
 ) -> bool
-    requires { ⌜ Searchable (now tables) (length (now dead)) × Reached (tablesIn (now tables)) (slotsIn (now tables)) (slotsIn (now tables) - slot) slot done ran × (isSubset (tablesIn (now tables) .due slot) done ≡ true) ⌝ }
+    requires { ⌜ Searchable (now tables) (length (now dead))
+        × Reached (tablesIn (now tables)) (slotsIn (now tables)) (slotsIn (now tables) - slot) slot done ran
+        × (isSubset (tablesIn (now tables) .due slot) done ≡ true) ⌝ }
     ensures found { λ r. ⌜ r ≡ exploredIn (now (tables .entry)) slot done ran (now (dead .entry)) .plan .ok ⌝ }
     ensures path { λ _. ⌜ now (path .exit) ≡ written slot (exploredIn (now (tables .entry)) slot done ran (now (dead .entry)) .plan .sets) (now (path .entry)) ⌝ }
     ensures dead { λ _. ⌜ now (dead .exit) ≡ exploredIn (now (tables .entry)) slot done ran (now (dead .entry)) .dead ⌝ }

@@ -96,7 +96,14 @@ module _ (n : ℕ) (N : ℕ → ℕ → Type 0) (s : ℕ) (family Room : List �
       go (no l) d r = record { list = u; good = g; weak = inl refl; grown = λ i. inl refl; full = inl l }
       go (yes l) (no k) r =
           let f = r u g in
-          record { list = f .list; good = f .good; weak = f .weak; grown = f .grown; full = full (f .list) (f .full) (λ y. k (may-less N s u (f .list) (f .grown) x y)) }
+          record {
+            list = f .list;
+            good = f .good;
+            weak = f .weak;
+            grown = f .grown;
+            full = full (f .list) (f .full)
+                (λ y. k (may-less N s u (f .list) (f .grown) x y));
+          }
       go (yes l) (yes y) r =
           let f = r (set u x s) (c .move u x (List·Memᴰ·head refl) g l y) in
           record {

@@ -28,7 +28,10 @@ all-placed-is s [] = (λ h i l. absurd (omega arith), λ f. tt)
 all-placed-is s (x ∷ t) = step (all-placed-is s t)
   where
     step : T (allPlaced s t) ↔ ((i : ℕ) → i < length t → at t i < s) → T (ltb x s && allPlaced s t) ↔ ((i : ℕ) → i < suc (length t) → at (x ∷ t) i < s)
-    step r = (λ h i l. go (T-and (ltb x s) (allPlaced s t) .0 h) i l, λ f. T-and (ltb x s) (allPlaced s t) .1 (T-ltb x s .1 (f 0 (omega arith)), r .1 (λ i l. f (suc i) (omega arith))))
+    step r = (
+      λ h i l. go (T-and (ltb x s) (allPlaced s t) .0 h) i l,
+      λ f. T-and (ltb x s) (allPlaced s t) .1 (T-ltb x s .1 (f 0 (omega arith)), r .1 (λ i l. f (suc i) (omega arith))),
+    )
       where
         go : T (ltb x s) × T (allPlaced s t) → (i : ℕ) → i < suc (length t) → at (x ∷ t) i < s
         go h zero l = T-ltb x s .0 (h .0)
@@ -50,7 +53,8 @@ pub record Right (n C : ℕ) (state : ℕ → List ℕ → Type 0) (family : ℕ
   pub over : (t u : List ℕ) → state C t → family C t u → T (allPlaced C t)
   -- the first result of the sets is the best of the family, if that of each set is the best of its own
   pub slot : (s : ℕ) (t : List ℕ) → s < C → state s t → (f : List ℕ → Option (List ℕ))
-      → ((S : List ℕ) → List·Memᴰ S (step s t) → state (suc s) (place s S t) → Best n (family (suc s) (place s S t)) (f S)) → Best n (family s t) (first f (step s t))
+      → ((S : List ℕ) → List·Memᴰ S (step s t) → state (suc s) (place s S t) → Best n (family (suc s) (place s S t)) (f S))
+      → Best n (family s t) (first f (step s t))
 
 -- then the search finds the best list of each family
 pub search-best : (n C : ℕ) (state : ℕ → List ℕ → Type 0) (family : ℕ → List ℕ → List ℕ → Type 0) (step : Step) → Right n C state family step
@@ -61,4 +65,5 @@ search-best n C state family step r zero s t e st =
     (λ h u g. let q : s ≡ C = omega arith in h (rw q (r .over t u (rw q at st) (rw q at g))))
 search-best n C state family step r (suc k) s t e st =
     by-choice (Best n (family s t)) (allPlaced s t) (r .leaf s t (omega arith) st)
-    (λ h. r .slot s t (omega arith) st (λ S. search step k (suc s) (place s S t)) (λ S m z. search-best n C state family step r k (suc s) (place s S t) (omega arith) z))
+    (λ h. r .slot s t (omega arith) st (λ S. search step k (suc s) (place s S t))
+    (λ S m z. search-best n C state family step r k (suc s) (place s S t) (omega arith) z))

@@ -1,4 +1,5 @@
--- Sets of jobs tried for a slot one after the other: where they come in the order of preference, the first that leads to a result gives the best. Assumes nothing.
+-- Sets of jobs tried for a slot one after the other: where they come in the order of preference, the first that leads to a result gives the best.
+-- Assumes nothing.
 use mathlib.Core.Path.{_≡_, refl}
 use mathlib.Core.Logic.{_⊎_, inl, inr, ⊎-elim, _↔_}
 use mathlib.Core.Bool.{Bool, true, false}
@@ -32,7 +33,8 @@ ordered-append (S ∷ Ss) Rs a b h = (
   ordered-append Ss Rs (a .1) b (λ X R m. h X R (List·Memᴰ·tail m)),
 )
 
-pub ordered-map : (f : List ℕ → List ℕ) (Ss : List (List ℕ)) → ((S R : List ℕ) → List·Memᴰ S Ss → List·Memᴰ R Ss → Sooner S R → Sooner (f S) (f R)) → Ordered Ss → Ordered (map f Ss)
+pub ordered-map : (f : List ℕ → List ℕ) (Ss : List (List ℕ)) → ((S R : List ℕ) → List·Memᴰ S Ss → List·Memᴰ R Ss → Sooner S R → Sooner (f S) (f R)) → Ordered Ss
+    → Ordered (map f Ss)
 ordered-map f [] h a = tt
 ordered-map f (S ∷ Ss) h a = (
   map-mem⁻¹ (λ R. Sooner (f S) R) f Ss (λ R m. h S R (List·Memᴰ·head refl) (List·Memᴰ·tail m) (a .0 R m)),
@@ -61,7 +63,8 @@ first f [] = none
 first f (x ∷ xs) = let r = first f xs in orElse (f x) r
 
 -- of a family in two parts, the first preferred, the first result is the best
-best-orElse : (n : ℕ) (A B : List ℕ → Type 0) → ((u v : List ℕ) → A u → B v → Weak n u v) → (o p : Option (List ℕ)) → Best n A o → Best n B p → Best n (λ u. A u ⊎ B u) (orElse o p)
+best-orElse : (n : ℕ) (A B : List ℕ → Type 0) → ((u v : List ℕ) → A u → B v → Weak n u v) → (o p : Option (List ℕ)) → Best n A o → Best n B p
+    → Best n (λ u. A u ⊎ B u) (orElse o p)
 unfolding orElse
 best-orElse n A B cmp none none a b = λ u h. ⊎-elim (a u) (b u) h
 best-orElse n A B cmp none (some q) a b = (inr (b .0), λ u h. ⊎-elim (λ x. absurd (a u x)) (b .1 u) h)
@@ -99,8 +102,10 @@ module _ (n s : ℕ) (G : List ℕ → Type 0) (past : (u v : List ℕ) → G u 
     unfolding first
     first-of [] o S-in h = λ u g. List·Memᴰ·not-nil (g .1 .1)
     first-of (S ∷ Ss) o S-in h =
-        Best-part n (λ u. A u ⊎ B u) (λ u. G u × OneOf n s (S ∷ Ss) u) both (λ u g. (u, split u (g .0) (g .1 .0) (List·Memᴰ·cases-cons (g .1 .1)) (g .1 .2), inl refl)) (orElse (f S) (first f Ss))
-        (best-orElse n A B (λ u v a b. inr (row-preferred S (b .1 .0) u v (S-in S (List·Memᴰ·head refl)) (o .0 (b .1 .0) (b .1 .1)) (a .0) (b .0) (a .1) (b .1 .2))) (f S) (first f Ss)
+        Best-part n (λ u. A u ⊎ B u) (λ u. G u
+        × OneOf n s (S ∷ Ss) u) both (λ u g. (u, split u (g .0) (g .1 .0) (List·Memᴰ·cases-cons (g .1 .1)) (g .1 .2), inl refl)) (orElse (f S) (first f Ss))
+        (best-orElse n A B (λ u v a b. inr
+        (row-preferred S (b .1 .0) u v (S-in S (List·Memᴰ·head refl)) (o .0 (b .1 .0) (b .1 .1)) (a .0) (b .0) (a .1) (b .1 .2))) (f S) (first f Ss)
         (h S (List·Memᴰ·head refl)) (first-of Ss (o .1) (λ R m. S-in R (List·Memᴰ·tail m)) (λ R m. h R (List·Memᴰ·tail m))))
       where
         A : List ℕ → Type 0
@@ -119,5 +124,6 @@ module _ (n s : ℕ) (G : List ℕ → Type 0) (past : (u v : List ℕ) → G u 
 
     -- the first result is best in the family, if each list has one that is no worse and starts one of the sets, and f is best for each set
     pub first-best : (Ss : List (List ℕ)) → Ordered Ss → ((S : List ℕ) → List·Memᴰ S Ss → (i : ℕ) → List·Memᴰ i S → i < n)
-        → ((u : List ℕ) → G u → (v : List ℕ) × (G v × OneOf n s Ss v) × Weak n v u) → ((S : List ℕ) → List·Memᴰ S Ss → Best n (λ u. G u × Row n s S u) (f S)) → Best n G (first f Ss)
+        → ((u : List ℕ) → G u → (v : List ℕ) × (G v × OneOf n s Ss v) × Weak n v u) → ((S : List ℕ) → List·Memᴰ S Ss → Best n (λ u. G u × Row n s S u) (f S))
+        → Best n G (first f Ss)
     first-best Ss o S-in cover h = Best-part n (λ u. G u × OneOf n s Ss u) G (λ u g. g .0) cover (first f Ss) (first-of Ss o S-in h)

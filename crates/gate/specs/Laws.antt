@@ -28,19 +28,22 @@ module _ (file work table : List ℕ) (p : Planned) (work′ table′ : List ℕ
   pub table-number : (k : ℕ) → p ≡ planned.Table k → Answered k
   unfolding planNumber
   table-number k e =
-      let h : outcomeOf (planned.Table k) work′ table′ ≡ plan file work table = subst (λ (q : Planned). outcomeOf q work′ table′ ≡ plan file work table) e answered in
+      let h : outcomeOf (planned.Table k) work′ table′
+      ≡ plan file work table = subst (λ (q : Planned). outcomeOf q work′ table′ ≡ plan file work table) e answered in
       (sym (ap planNumber (sym h) ∙ choose-yes _ _ _ (T-eqb 0 0 .1 refl)), (ap (λ (o : Outcome). o .work) h, ap (λ (o : Outcome). o .table) h))
 
   pub table-few : (k : ℕ) → p ≡ planned.Table k → ((i : ℕ) → at file i < 256) → k ≤ tableSize
   table-few k e b =
-      let h : outcomeOf (planned.Table k) work′ table′ ≡ plan file work table = subst (λ (q : Planned). outcomeOf q work′ table′ ≡ plan file work table) e answered in
+      let h : outcomeOf (planned.Table k) work′ table′
+      ≡ plan file work table = subst (λ (q : Planned). outcomeOf q work′ table′ ≡ plan file work table) e answered in
       omega (arith, ap (λ (o : Outcome). o .size) h, plan-size file work table (bytes-all file b))
 
   -- a refusal: its number is not 0, since a table has bytes
   pub refusal-number : (q : ℕ) → p ≡ planned.Refused q → Answered (65536 + q)
   unfolding planNumber
   refusal-number q e =
-      let h : outcomeOf (planned.Refused q) work′ table′ ≡ plan file work table = subst (λ (r : Planned). outcomeOf r work′ table′ ≡ plan file work table) e answered in
+      let h : outcomeOf (planned.Refused q) work′ table′
+      ≡ plan file work table = subst (λ (r : Planned). outcomeOf r work′ table′ ≡ plan file work table) e answered in
       let n : q ≡ 0 → ⊥ = λ z. omega (arith, ap (λ (o : Outcome). o .size) h, table-has-bytes file work table (sym (ap (λ (o : Outcome). o .number) h) ∙ z)) in
       (sym (ap planNumber (sym h) ∙ choose-no _ _ _ (λ t. n (T-eqb q 0 .0 t))), (ap (λ (o : Outcome). o .work) h, ap (λ (o : Outcome). o .table) h))
 
@@ -78,7 +81,8 @@ pub name-at : (bs : List ℕ) (s b : ℕ) → let w = nameNumber bs (lookup bs s
 unfolding nameAt
 name-at bs s b = go (lookup bs s b) refl
   where
-    far : (i : ℕ) → lookup bs s b ≡ got (suc i) → let w = (rowStart bs i + 7) * 65536 + (rowStart bs (suc i) - (rowStart bs i + 7)) in (w % 65536 ≡ rowStart bs (suc i) - (rowStart bs i + 7)) × (w / 65536 ≡ rowStart bs i + 7)
+    far : (i : ℕ) → lookup bs s b ≡ got (suc i) → let w = (rowStart bs i + 7) * 65536 + (rowStart bs (suc i) - (rowStart bs i + 7)) in
+        (w % 65536 ≡ rowStart bs (suc i) - (rowStart bs i + 7)) × (w / 65536 ≡ rowStart bs i + 7)
     far i e = omega (arith, name-lies bs s b i e)
 
     go : (x : Answer ℕ) → lookup bs s b ≡ x → part bs (nameSpan bs x .0) (nameSpan bs x .1) ≡ take (nameNumber bs x % 65536) (drop (nameNumber bs x / 65536) bs)

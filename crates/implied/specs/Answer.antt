@@ -102,13 +102,13 @@ module _ {file list : List ℕ} {F : Counts} {offsets takers : List ℕ} (r : Fi
 
   -- the jobs are peeled, by all needs that the rows hold
   abbrev pub PeeledSo : Bool → List ℕ → List ℕ → Type 0
-  PeeledSo ok order dates = (ns : List Need) → NeedsIn n ns → RowsAre takers n ns → Peeled n ns ok order dates
+  PeeledSo ok order releases = (ns : List Need) → NeedsIn n ns → RowsAre takers n ns → Peeled n ns ok order releases
 
   -- and there is no circle
   pub record NoCircle (order : List ℕ) : Type 0 where
     pub ok : Bool
-    pub dates : List ℕ
-    pub peeled : PeeledSo ok order dates
+    pub releases : List ℕ
+    pub peeled : PeeledSo ok order releases
     pub free : ok ≡ true
 
   -- the rows of the jobs beyond each are filled
@@ -116,7 +116,7 @@ module _ {file list : List ℕ} {F : Counts} {offsets takers : List ℕ} (r : Fi
     pub beyond-are : BeyondAre takers n beyond
     pub beyond-room : rowsSize ≤ length beyond
 
-  module _ {ok : Bool} {order dates : List ℕ} (peeled : PeeledSo ok order dates) where
+  module _ {ok : Bool} {order releases : List ℕ} (peeled : PeeledSo ok order releases) where
     free-is : circleFree n needs ≡ ok
     free-is = sym (peeled needs file-needs rows-are .answer)
 

@@ -131,7 +131,8 @@ fn put_row(
     list: &mut [u16],
     at: usize,
 ) -> usize
-    requires { ⌜ RowsThere (now takers) jobs (now beyond) × (giver < jobs) × (at + length (rowFrom (now takers) (now beyond) jobs giver 0) ≤ length (now list)) ⌝ }
+    requires { ⌜ RowsThere (now takers) jobs (now beyond) × (giver < jobs)
+        × (at + length (rowFrom (now takers) (now beyond) jobs giver 0) ≤ length (now list)) ⌝ }
     ensures size { λ r. ⌜ r ≡ at + length (rowFrom (now (takers .entry)) (now (beyond .entry)) jobs giver 0) ⌝ }
     ensures entries { λ _. ⌜ now (list .exit) ≡ put at (rowFrom (now (takers .entry)) (now (beyond .entry)) jobs giver 0) (now (list .entry)) ⌝ }
 {

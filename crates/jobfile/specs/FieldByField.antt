@@ -42,7 +42,8 @@ module _ (bs : List ℕ) (a : ℕ) (f : JobFile) (next : ToCome bs a f) where
     unfolding onField after
     field-refuses q e =
         let p = overFields-step (readField bs) (next .room) bs a f h (next .enough) in
-        sym (next .rest) ∙ p .2 ∙ ap (λ (r : Answer JobFile). after r (λ g. overFields (readField bs) (p .0) bs (fieldEnd bs a) g)) (field-first bs f a ∙ ap (onField bs f a) e)
+        sym (next .rest) ∙ p .2 ∙ ap (λ (r : Answer JobFile). after r (λ g. overFields (readField bs) (p .0) bs (fieldEnd bs a) g)) (field-first bs f a
+        ∙ ap (onField bs f a) e)
 
     module _ (t s e : ℕ) (found : fieldAt bs a (f .fields) ≡ Field t s e) (state : State) (held : Held bs f state) where
       -- the rules' answer and the code's are the same, and what follows is the same
@@ -53,8 +54,13 @@ module _ (bs : List ℕ) (a : ℕ) (f : JobFile) (next : ToCome bs a f) where
       unfolding onField Value
       split =
           let p = overFields-step (readField bs) (next .room) bs a f h (next .enough) in
-          let w = stands bs a (f .fields) t s e found in
-          (p .0, rw (w .end-is) (p .1), sym (next .rest) ∙ p .2 ∙ rw (w .end-is) (ap (λ (r : Answer JobFile). after r (λ g. overFields (readField bs) (p .0) bs (fieldEnd bs a) g)) (field-first bs f a ∙ ap (onField bs f a) found)))
+          let w = stands bs a (f .fields) t s e found in (
+            p .0,
+            rw (w .end-is) (p .1),
+            sym (next .rest) ∙ p .2
+                ∙ rw (w .end-is) (ap (λ (r : Answer JobFile). after r (λ g. overFields (readField bs) (p .0) bs (fieldEnd bs a) g)) (field-first bs f a
+                ∙ ap (onField bs f a) found)),
+          )
 
       same : Same bs Value (takeField state t a (take (e - s) (drop s bs)))
       unfolding Value
@@ -72,7 +78,8 @@ module _ (bs : List ℕ) (a : ℕ) (f : JobFile) (next : ToCome bs a f) where
       unfolding Same after
       value-taken state′ r = go Value (rw r at same) (split .2)
         where
-          go : (x : Answer JobFile) → Same bs x (got state′) → allFields bs ≡ after x (λ g. overFields (readField bs) (split .0) bs e g) → (g : JobFile) × Held bs g state′ × ToCome bs e g
+          go : (x : Answer JobFile) → Same bs x (got state′) → allFields bs ≡ after x (λ g. overFields (readField bs) (split .0) bs e g) → (g : JobFile)
+              × Held bs g state′ × ToCome bs e g
           go (refused p) z q = absurd z
           go (got g) z q = (g, z, record { room = split .0; enough = split .1; rest = sym q })
 
@@ -108,7 +115,8 @@ grown-ask k false q x h = tt
 grown : (s : State) (tag a : ℕ) (v : List ℕ) → Grown (s .fields) (takeField s tag a v)
 unfolding takeField takeNeed takeSockets linked Grown
 grown s tag a v =
-    grown-ask k (contentOk tag v) 6 _ (by-choice (Grown k) (eqb tag 2) (λ _. refl) (λ _. by-choice (Grown k) (eqb tag 3) (λ _. grown-ask k (ltb (s .jobs) maxJobs) 7 _ refl)
+    grown-ask k (contentOk tag v) 6 _
+    (by-choice (Grown k) (eqb tag 2) (λ _. refl) (λ _. by-choice (Grown k) (eqb tag 3) (λ _. grown-ask k (ltb (s .jobs) maxJobs) 7 _ refl)
     (λ _. by-choice (Grown k) (isNeed tag) (λ _. grown-ask k _ 8 _ refl)
     (λ _. by-choice (Grown k) (eqb tag 9) (λ _. grown-ask k _ 21 _ refl) (λ _. refl)))))
   where

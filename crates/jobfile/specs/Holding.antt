@@ -87,13 +87,20 @@ module _ (bs : List ℕ) (f : JobFile) (s : State) (held : Held bs f s) where
       room : rowBytes * s .jobs + rowBytes ≤ length (s .rows)
       room = omega (arith, held .sizes .1)
 
-      here : (i : ℕ) → i < s .jobs + 1 → Dec (i ≡ s .jobs) → (P : ℕ → Type 0) → P a → (i < s .jobs → P (at (s .offsets) i)) → P (at (set (s .offsets) (s .jobs) a) i)
+      here : (i : ℕ) → i < s .jobs + 1 → Dec (i ≡ s .jobs) → (P : ℕ → Type 0) → P a → (i < s .jobs → P (at (s .offsets) i))
+          → P (at (set (s .offsets) (s .jobs) a) i)
       here i l (yes e) P p q = rw (e, getD-set-same (s .offsets) (s .jobs) a 0 (omega (arith, held .sizes))) p
       here i l (no n) P p q = rw (getD-set-other (s .offsets) (s .jobs) i a 0 n) (q (omega arith))
 
-      job : (i : ℕ) → i < s .jobs + 1 → Dec (i ≡ s .jobs) → jobOf (value bs (at (set (s .offsets) (s .jobs) a) i)) ≡ nthJob (f .jobs ++ jobOf (value bs a) ∷ []) i
-      job i l (yes e) = rw (e, getD-set-same (s .offsets) (s .jobs) a 0 (omega (arith, held .sizes)), held .jobs-is) (sym (getD-append-seam (f .jobs) (jobOf (value bs a)) [] _))
-      job i l (no n) = rw (getD-set-other (s .offsets) (s .jobs) i a 0 n) (held .offsets-are i (omega arith) ∙ sym (List·getD-append (f .jobs) (jobOf (value bs a) ∷ []) _ i (omega (arith, held .jobs-is))))
+      job : (i : ℕ) → i < s .jobs + 1 → Dec (i ≡ s .jobs) → jobOf (value bs (at (set (s .offsets) (s .jobs) a) i))
+          ≡ nthJob (f .jobs ++ jobOf (value bs a) ∷ []) i
+      job i l (yes e) = rw (
+        e,
+        getD-set-same (s .offsets) (s .jobs) a 0 (omega (arith, held .sizes)),
+        held .jobs-is,
+      ) (sym (getD-append-seam (f .jobs) (jobOf (value bs a)) [] _))
+      job i l (no n) = rw (getD-set-other (s .offsets) (s .jobs) i a 0 n) (held .offsets-are i (omega arith)
+          ∙ sym (List·getD-append (f .jobs) (jobOf (value bs a) ∷ []) _ i (omega (arith, held .jobs-is))))
 
   need-held : (g k : ℕ) → g < s .jobs → k < s .jobs → Held bs (withNeed f (g, k)) (linked s g k)
   unfolding withNeed linked
@@ -127,6 +134,7 @@ module _ (bs : List ℕ) (f : JobFile) (s : State) (held : Held bs f s) where
   field-same tag a w =
       same-ask bs _ _ 6 _ _ refl (λ _.
       same-choose bs (eqb tag 2) _ _ _ _ (limit-held (at (value bs a) 0))
-      (same-choose bs (eqb tag 3) _ _ _ _ (same-ask bs _ _ 7 _ _ (rw (held .jobs-is) refl) (λ t. job-held a w (omega (arith, T-ltb (length (f .jobs)) maxJobs .0 t, held .jobs-is))))
+      (same-choose bs (eqb tag 3) _ _ _ _
+      (same-ask bs _ _ 7 _ _ (rw (held .jobs-is) refl) (λ t. job-held a w (omega (arith, T-ltb (length (f .jobs)) maxJobs .0 t, held .jobs-is))))
       (same-choose bs (isNeed tag) _ _ _ _ (need-same (giverOf tag (value bs a)) (takerOf tag (value bs a)))
       (same-choose bs (eqb tag 9) _ _ _ _ (sockets-same (at (value bs a) 0)) counted-held))))

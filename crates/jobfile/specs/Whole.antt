@@ -28,7 +28,8 @@ reads-refused bs q r o rows e n = record { number-is = n ∙ sym (ap numberOf e)
 -- a file that is too long
 pub too-long : (bs : List ℕ) (r : Counts) (o rows : List ℕ) → maxFile < length bs → r .number ≡ 2 → Reads bs r o rows
 unfolding readFile
-too-long bs r o rows h n = reads-refused bs 2 r o rows (ask-no (leb (length bs) maxFile) 2 (after (allFields bs) complete) (λ z. let w = simp tests at z in omega arith)) n
+too-long bs r o rows h n = reads-refused bs 2 r o rows (ask-no (leb (length bs) maxFile) 2 (after (allFields bs) complete) (λ z. let w = simp tests at z in
+    omega arith)) n
 
 module _ (bs : List ℕ) (fits : length bs ≤ maxFile) (c : Counts) (o rows : List ℕ) (q : ℕ) (number-is : q ≡ completeNumber c) where
   read-is : (x : Answer JobFile) → allFields bs ≡ x → readFile bs ≡ after x complete
@@ -44,7 +45,8 @@ module _ (bs : List ℕ) (fits : length bs ≤ maxFile) (c : Counts) (o rows : L
     completed = read-is (got f) all
 
     incomplete : (c .fields < 2) ⊎ (c .jobs < 1) → completeNumber c ≡ 10 → Reads bs result o rows
-    incomplete h n = reads-refused bs 10 result o rows (completed ∙ ask-no (leb 2 (f .fields) && leb 1 (length (f .jobs))) 10 (got f) (λ z. no h (simp tests at z))) (number-is ∙ n)
+    incomplete h n = reads-refused bs 10 result o rows (completed
+        ∙ ask-no (leb 2 (f .fields) && leb 1 (length (f .jobs))) 10 (got f) (λ z. no h (simp tests at z))) (number-is ∙ n)
       where
         no : (c .fields < 2) ⊎ (c .jobs < 1) → (2 ≤ f .fields) × (1 ≤ length (f .jobs)) → ⊥
         no (inl l) w = omega (arith, held .fields-is)
@@ -55,18 +57,22 @@ module _ (bs : List ℕ) (fits : length bs ≤ maxFile) (c : Counts) (o rows : L
     readable h l n = record { number-is = number-is ∙ n ∙ sym (ap numberOf read); held = λ f′ e. let p : f ≡ f′ = cc (sym read ∙ e) in rw (← p) held }
       where
         read : readFile bs ≡ got f
-        read = completed ∙ ask-yes (leb 2 (f .fields) && leb 1 (length (f .jobs))) 10 (got f) (simp tests (omega (arith, held .fields-is), omega (arith, held .jobs-is)))
+        read = completed ∙ ask-yes (leb 2 (f .fields)
+            && leb 1 (length (f .jobs))) 10 (got f) (simp tests (omega (arith, held .fields-is), omega (arith, held .jobs-is)))
 
   -- a file of which all fields were asked
   pub all-asked : Same bs (allFields bs) (answerOf c o rows) → Reads bs result o rows
   unfolding Same after completeNumber choose
   all-asked same = go (ℕ-discrete (c .number) 0)
     where
-      yes-got : c .number ≡ 0 → (x : Answer JobFile) → allFields bs ≡ x → Same bs x (got (stateOf c o rows)) → Dec (c .fields < 2) → Dec (c .jobs < 1) → Reads bs result o rows
+      yes-got : c .number ≡ 0 → (x : Answer JobFile) → allFields bs ≡ x → Same bs x (got (stateOf c o rows)) → Dec (c .fields < 2) → Dec (c .jobs < 1)
+          → Reads bs result o rows
       yes-got n (refused p) e s d j = absurd s
       yes-got n (got f) e s (yes l) j = incomplete n f e s (inl l) (simp (eq-eqb (c .number) 0 n, lt-ltb (c .fields) 2 l))
-      yes-got n (got f) e s (no l) (yes j) = incomplete n f e s (inr j) (simp (eq-eqb (c .number) 0 n, le-ltb (c .fields) 2 (omega arith), lt-ltb (c .jobs) 1 j))
-      yes-got n (got f) e s (no l) (no j) = readable n f e s (omega arith) (omega arith) (simp (eq-eqb (c .number) 0 n, le-ltb (c .fields) 2 (omega arith), le-ltb (c .jobs) 1 (omega arith)))
+      yes-got n (got f) e s (no l) (yes j) = incomplete n f e s (inr j)
+          (simp (eq-eqb (c .number) 0 n, le-ltb (c .fields) 2 (omega arith), lt-ltb (c .jobs) 1 j))
+      yes-got n (got f) e s (no l) (no j) = readable n f e s (omega arith) (omega arith)
+          (simp (eq-eqb (c .number) 0 n, le-ltb (c .fields) 2 (omega arith), le-ltb (c .jobs) 1 (omega arith)))
 
       not-got : (c .number ≡ 0 → ⊥) → (x : Answer JobFile) → allFields bs ≡ x → Same bs x (refused (c .number)) → Reads bs result o rows
       not-got n (refused p) e s = reads-refused bs p result o rows (read-is (refused p) e) (number-is ∙ simp (ne-eqb (c .number) 0 n) (sym s))

@@ -113,7 +113,8 @@ fn take_job(
     rows: &mut [u8],
 ) -> Counts
     requires { ⌜ (c .fields < 65536) × (c .jobs ≤ maxJobs) × (at < 65536) × (2 ≤ length (now v)) × (rowsSize ≤ length (now rows)) ⌝ }
-    ensures { λ r. ⌜ (answerOf r (now (offsets .exit)) (now (rows .exit)) ≡ takeField (stateOf c (now (offsets .entry)) (now (rows .entry))) 3 at (now (v .entry))) × (length (now (rows .exit)) ≡ length (now (rows .entry))) ⌝ }
+    ensures { λ r. ⌜ (answerOf r (now (offsets .exit)) (now (rows .exit))
+        ≡ takeField (stateOf c (now (offsets .entry)) (now (rows .entry))) 3 at (now (v .entry))) × (length (now (rows .exit)) ≡ length (now (rows .entry))) ⌝ }
 {
     if !name_ok(v) {
         return refused(6);
@@ -136,7 +137,8 @@ fn take_job(
 // A need between the jobs with these numbers: question 8. The giver gets the taker; a pair that comes again changes nothing.
 fn take_need(c: Counts, giver: usize, taker: usize, rows: &mut [u8]) -> Counts
     requires { ⌜ (c .fields < 65536) × (c .jobs ≤ maxJobs) × (rowsSize ≤ length (now rows)) ⌝ }
-    ensures { λ r. ⌜ ((o : List ℕ) → answerOf r o (now (rows .exit)) ≡ takeNeed (stateOf c o (now (rows .entry))) giver taker) × (length (now (rows .exit)) ≡ length (now (rows .entry))) ⌝ }
+    ensures { λ r. ⌜ ((o : List ℕ) → answerOf r o (now (rows .exit)) ≡ takeNeed (stateOf c o (now (rows .entry))) giver taker)
+        × (length (now (rows .exit)) ≡ length (now (rows .entry))) ⌝ }
 {
     let jobs = c.jobs;
     if !is_job(jobs, giver) {
@@ -186,7 +188,8 @@ fn take_field(
     rows: &mut [u8],
 ) -> Counts
     requires { ⌜ (c .fields < 65536) × (c .jobs ≤ maxJobs) × (at < 65536) × T (lengthOk tag (length (now v))) × (rowsSize ≤ length (now rows)) ⌝ }
-    ensures { λ r. ⌜ (answerOf r (now (offsets .exit)) (now (rows .exit)) ≡ takeField (stateOf c (now (offsets .entry)) (now (rows .entry))) tag at (now (v .entry))) × (length (now (rows .exit)) ≡ length (now (rows .entry))) ⌝ }
+    ensures { λ r. ⌜ (answerOf r (now (offsets .exit)) (now (rows .exit))
+        ≡ takeField (stateOf c (now (offsets .entry)) (now (rows .entry))) tag at (now (v .entry))) × (length (now (rows .exit)) ≡ length (now (rows .entry))) ⌝ }
 {
     if tag == 3 {
         return take_job(c, at, v, offsets, rows);
@@ -212,7 +215,8 @@ fn take_field(
 // All fields, one after the other: questions 3 to 8, and 21.
 fn read_fields(file: &[u8], offsets: &mut [u16; MAX_JOBS], rows: &mut [u8]) -> Counts
     requires { ⌜ (length (now file) ≤ maxFile) × (rowsSize ≤ length (now rows)) × Held (now file) noFields (initial (now offsets) (now rows)) ⌝ }
-    ensures { λ r. ⌜ Same (now (file .entry)) (allFields (now (file .entry))) (answerOf r (now (offsets .exit)) (now (rows .exit))) × (length (now (rows .exit)) ≡ length (now (rows .entry))) ⌝ }
+    ensures { λ r. ⌜ Same (now (file .entry)) (allFields (now (file .entry))) (answerOf r (now (offsets .exit)) (now (rows .exit)))
+        × (length (now (rows .exit)) ≡ length (now (rows .entry))) ⌝ }
 {
     let mut c = Counts {
         number: 0,

@@ -1,18 +1,17 @@
 -- The list of the members of a set, and what a loop over them needs. Assumes nothing.
 use mathlib.Core.Path.{_≡_, refl, sym, ap, _∙_}
-use mathlib.Core.Bool.{Bool, true, false, not, false≢true}
+use mathlib.Core.Bool.{Bool, true, false, not}
 use mathlib.Core.Logic.{_↔_}
 use mathlib.Core.List.{[], _∷_, List·Memᴰ}
 use Prim.Native.Nat.{ℕ, zero, suc, _+_, _^_, _<_, _≤_}
 use native.Mathlib.Decide.{ℕ-discrete}
 use native.Mathlib.Omega.{arith}
 use borrow.Author.Tests.{eqb-true, not-true, not-false}
-use lib.ListN.{length}
 use Rattle.rules.specs.Basics.{choose, range, filter}
 use Rattle.laws.specs.Tests.{T-true}
 use Rattle.laws.specs.Counting.{passing, passing-in}
 use Rattle.jobset.specs.declared.Set.{Set}
-use Rattle.jobset.specs.Sets.{member, empty, without, Subset, isEmpty, lowest, membersFrom, members}
+use Rattle.jobset.specs.Sets.{member, empty, without, isEmpty, lowest, membersFrom, members}
 use Rattle.jobset.specs.Membership.{member-empty, without-same, without-other}
 use Rattle.jobset.specs.Order.{greater-iff}
 use Rattle.jobset.specs.Lowest.{below-lowest, lowest-member}
@@ -49,7 +48,8 @@ none-from zero i = refl
 none-from (suc k) i = rw (member-empty i) (none-from k (suc i))
 
 -- the list begins with the lowest member and goes on with the others
-lowest-from : (k i : ℕ) (s : Set) → member s (lowest s) ≡ true → i ≤ lowest s → lowest s < i + k → membersFrom k i s ≡ lowest s ∷ membersFrom k i (without s (lowest s))
+lowest-from : (k i : ℕ) (s : Set) → member s (lowest s) ≡ true → i ≤ lowest s → lowest s < i + k → membersFrom k i s ≡ lowest s
+    ∷ membersFrom k i (without s (lowest s))
 unfolding membersFrom choose
 lowest-from zero i s m a b = absurd (omega arith)
 lowest-from (suc k) i s m a b = go (λ x y. lowest-from k (suc i) s m x y) (ℕ-discrete i (lowest s))
@@ -116,17 +116,3 @@ unfolding isEmpty members
 end s b e n =
     let z : s ≡ empty = ap (λ (x : ℕ). record { bits = x }) (eqb-true (s .bits) 0 (sym e ∙ not-false b n)) in
     record { is-empty = z; no-members = rw (z) (none-from 64 0) }
-
--- ---- the number of members
-
-fewer-from : (k i : ℕ) (s t : Set) → Subset s t → length (membersFrom k i s) ≤ length (membersFrom k i t)
-unfolding membersFrom Subset choose
-fewer-from zero i s t w = omega arith
-fewer-from (suc k) i s t w = go (fewer-from k (suc i) s t w) (member s i) (member t i) (w i)
-  where
-    go : length (membersFrom k (suc i) s) ≤ length (membersFrom k (suc i) t) → (a b : Bool) → (a ≡ true → b ≡ true)
-        → length (choose a (i ∷ membersFrom k (suc i) s) (membersFrom k (suc i) s)) ≤ length (choose b (i ∷ membersFrom k (suc i) t) (membersFrom k (suc i) t))
-    go h true true f = omega arith
-    go h true false f = absurd (false≢true (f refl))
-    go h false true f = omega arith
-    go h false false f = h

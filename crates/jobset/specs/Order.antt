@@ -28,7 +28,8 @@ unfolding member
 member-half s j = ap (λ (d : ℕ). eqb d 1) (digit-half (s .bits) j)
 
 -- two sets differ highest where their halves do, or else at place 0
-step : (s t : Set) → t .bits < s .bits → (half t .bits < half s .bits → HighestDifference (half s) (half t)) → Dec (half s .bits ≡ half t .bits) → HighestDifference s t
+step : (s t : Set) → t .bits < s .bits → (half t .bits < half s .bits → HighestDifference (half s) (half t)) → Dec (half s .bits ≡ half t .bits)
+    → HighestDifference s t
 unfolding member digit
 step s t l ih (yes e) = record {
   place = zero;

@@ -32,7 +32,8 @@ module _ (s : Set) (i : ℕ) (m : member s i ≡ true) (none-below : (j : ℕ) �
   not-greater d = differ (ℕ-discrete (d .place) i) (greater-iff s (nextBelow s s) .0 (next-less s s (omega (arith, without-less s i m))))
     where
       at : (h : HighestDifference s (nextBelow s s)) → d .place ≡ i → Dec (i < h .place) → Dec (h .place < i) → ⊥
-      at h e (yes l) b = not-both (member s (h .place)) (h .is-in) (sym (without-other s i (h .place) (omega arith)) ∙ sym (d .same-above (h .place) (omega arith)) ∙ h .not-in)
+      at h e (yes l) b = not-both (member s (h .place)) (h .is-in) (sym (without-other s i (h .place) (omega arith))
+          ∙ sym (d .same-above (h .place) (omega arith)) ∙ h .not-in)
       at h e (no a) (yes l) = not-both (member s (h .place)) (h .is-in) (none-below (h .place) l)
       at h e (no a) (no b) =
           let q : d .place ≡ h .place = omega arith in

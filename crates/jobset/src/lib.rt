@@ -14,6 +14,13 @@ impl Set {
     // The set with no member.
     pub const EMPTY: Set = Set { bits: 0 };
 
+    // The set whose members are the digits 1 of a byte.
+    pub fn of_byte(byte: u8) -> Set
+        ensures { λ r. ⌜ (r .bits ≡ byte) × (byte < 256) ⌝ }
+    {
+        Set { bits: byte as u64 }
+    }
+
     // The set whose one member is i.
     pub fn one(i: usize) -> Set
         requires { ⌜ i < 64 ⌝ }

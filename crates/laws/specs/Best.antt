@@ -2,7 +2,8 @@
 use mathlib.Core.Path.{_≡_, refl, sym, ap}
 use mathlib.Core.Logic.{_≢_, _⊎_, inl, inr, ⊎-elim, _↔_}
 use mathlib.Core.Bool.{Bool, _&&_}
-use mathlib.Core.List.{List, [], _∷_, _++_, map, List·Memᴰ, List·Memᴰ·head, List·Memᴰ·tail, List·Memᴰ·cases-cons, List·Memᴰ·not-nil, List·Memᴰ·append-cases, Memᴰ·append-left, Memᴰ·append-right, Memᴰ·cast}
+use mathlib.Core.List.{List, [], _∷_, _++_, map, List·Memᴰ, List·Memᴰ·head, List·Memᴰ·tail, List·Memᴰ·cases-cons, List·Memᴰ·not-nil, List·Memᴰ·append-cases}
+use mathlib.Core.List.{Memᴰ·append-left, Memᴰ·append-right, Memᴰ·cast}
 use mathlib.Core.Option.{Option, none, some}
 use Prim.Native.Nat.{ℕ, zero, suc, _≤_, _<_}
 use native.Mathlib.Omega.{arith}
@@ -96,7 +97,8 @@ prefixed-mem (suc k) ls x u h m = go (ℕ-discrete x k) (λ l. prefixed-mem k ls
     go (yes e) r = Memᴰ·cast (ap (λ (y : ℕ). y ∷ u) e) (Memᴰ·append-left (prefixed k ls) (map-mem (λ l. k ∷ l) ls u m))
     go (no e) r = Memᴰ·append-right (map (λ l. k ∷ l) ls) (r (omega arith))
 
-prefixed-mem⁻¹ : (P : List ℕ → Type 0) (L : ℕ) (ls : List (List ℕ)) → ((x : ℕ) (u : List ℕ) → x < L → List·Memᴰ u ls → P (x ∷ u)) → (v : List ℕ) → List·Memᴰ v (prefixed L ls) → P v
+prefixed-mem⁻¹ : (P : List ℕ → Type 0) (L : ℕ) (ls : List (List ℕ)) → ((x : ℕ) (u : List ℕ) → x < L → List·Memᴰ u ls → P (x ∷ u)) → (v : List ℕ)
+    → List·Memᴰ v (prefixed L ls) → P v
 unfolding prefixed
 prefixed-mem⁻¹ P zero ls f v m = absurd (List·Memᴰ·not-nil m)
 prefixed-mem⁻¹ P (suc k) ls f v m = go (List·Memᴰ·append-cases (map (λ l. k ∷ l) ls) m) (prefixed-mem⁻¹ P k ls (λ x u h. f x u (omega arith)) v)
@@ -111,7 +113,8 @@ start-lists-all zero L [] f = List·Memᴰ·head refl
 start-lists-all zero L (x ∷ u) f = absurd (omega (arith, f .len))
 start-lists-all (suc n) L [] f = absurd (omega (arith, f .len))
 start-lists-all (suc n) L (x ∷ u) f =
-    prefixed-mem L (startLists n L) x u (f .below 0 (omega arith)) (start-lists-all n L u record { len = omega (arith, f .len); below = λ i h. f .below (suc i) (omega arith) })
+    prefixed-mem L (startLists n L) x u (f .below 0 (omega arith))
+    (start-lists-all n L u record { len = omega (arith, f .len); below = λ i h. f .below (suc i) (omega arith) })
 
 pub start-lists-fit : (n L : ℕ) (u : List ℕ) → List·Memᴰ u (startLists n L) → Fits n L u
 unfolding startLists
@@ -169,7 +172,8 @@ best-of n p K p-is L = go (bestBy (betterb L) found) (bestBy-is (betterb L) (bet
     go (some t) h = (
       p-is t .0 (w .1),
       start-lists-fit n L t (w .0),
-      λ u k f. ⊎-elim (λ q. inl q) (λ q. inr (q .0, preferred-is n L t u (start-lists-fit n L t (w .0)) f .0 (q .1))) (better-is L t u .0 (h .1 u (inside u k f))),
+      λ u k f. ⊎-elim (λ q. inl q) (λ q. inr (q .0, preferred-is n L t u (start-lists-fit n L t (w .0)) f .0 (q .1)))
+          (better-is L t u .0 (h .1 u (inside u k f))),
     )
       where
         w : List·Memᴰ t (startLists n L) × T (p t)
@@ -177,7 +181,8 @@ best-of n p K p-is L = go (bestBy (betterb L) found) (bestBy-is (betterb L) (bet
 
 -- tests that say the same of the lists within the limit have the same best list
 pub best-same : (n : ℕ) (p q : List ℕ → Bool) (L : ℕ) → ((u : List ℕ) → Fits n L u → T (p u) ↔ T (q u)) → best n p L ≡ best n q L
-best-same n p q L h = BestWithin-unique n L (λ u. T (q u)) (best n p L) (best n q L) (go (best n p L) (best-of n p (λ u. T (p u)) (λ u. (λ t. t, λ t. t)) L)) (best-of n q (λ u. T (q u)) (λ u. (λ t. t, λ t. t)) L)
+best-same n p q L h = BestWithin-unique n L (λ u. T (q u)) (best n p L) (best n q L) (go (best n p L) (best-of n p (λ u. T (p u)) (λ u. (λ t. t, λ t. t)) L))
+    (best-of n q (λ u. T (q u)) (λ u. (λ t. t, λ t. t)) L)
   where
     go : (o : Option (List ℕ)) → BestWithin n L (λ u. T (p u)) o → BestWithin n L (λ u. T (q u)) o
     go none b = λ u k f. b u (h u f .1 k) f
@@ -188,7 +193,8 @@ pub best-is : (n : ℕ) (needs : List Need) (c L : ℕ) → BestWithin n L (Runs
 best-is n needs c L = best-of n (runsb n needs c) (Runs n needs c) (runs-is n needs c) L
 
 -- a cap that every list within the limit keeps asks nothing
-pub best-uncapped : (n : ℕ) (needs : List Need) (c L : ℕ) → ((u : List ℕ) → Kept (Gives needs) (at u) → Fits n L u → Capped n c u) → best n (runsb n needs c) L ≡ best n (keptb needs) L
+pub best-uncapped : (n : ℕ) (needs : List Need) (c L : ℕ) → ((u : List ℕ) → Kept (Gives needs) (at u) → Fits n L u → Capped n c u) → best n (runsb n needs c) L
+    ≡ best n (keptb needs) L
 best-uncapped n needs c L h = best-same n (runsb n needs c) (keptb needs) L (λ u f. (
   λ t. kept-is needs u .1 (runs-is n needs c u .0 t .kept),
   λ t. let k = kept-is needs u .0 t in runs-is n needs c u .1 record { kept = k; capped = h u k f },
@@ -232,8 +238,11 @@ module _ (n : ℕ) (needs : List Need) (c L : ℕ) (distinct : Distinct needs) (
   -- and nothing else is
   pub best-only : (t : List ℕ) → Shortest n needs c L t → best n (runsb n needs c) L ≡ some t
   best-only t s =
-      BestWithin-unique n L (Runs n needs c) (best n (runsb n needs c) L) (some t) (best-is n needs c L)
-      (w .0, slots-fits n L t (w .1 .len) (s .fits), λ u k f. compare u (program L u .1 (k, f)) (preferred-total n t u (w .1 .len) (f .len)) (decLt (slots t) (slots u)))
+      BestWithin-unique n L (Runs n needs c) (best n (runsb n needs c) L) (some t) (best-is n needs c L) (
+        w .0,
+        slots-fits n L t (w .1 .len) (s .fits),
+        λ u k f. compare u (program L u .1 (k, f)) (preferred-total n t u (w .1 .len) (f .len)) (decLt (slots t) (slots u)),
+      )
     where
       w : Runs n needs c t × Fits n (slots t) t
       w = program (slots t) t .0 (s .satisfies, s .capped)
@@ -257,7 +266,10 @@ module _ (n : ℕ) (needs : List Need) (c L : ℕ) (distinct : Distinct needs) (
 
   -- and there is none exactly where no list within the limit satisfies both
   pub best-none : (best n (runsb n needs c) L ≡ none) ↔ ((t : List ℕ) → Satisfies n needs c L t → ⊥)
-  best-none = (λ e t s. let w = program L t .0 s in (rw e at (best-is n needs c L)) t (w .0) (w .1), λ f. go f (best n (runsb n needs c) L) (best-is n needs c L))
+  best-none = (
+    λ e t s. let w = program L t .0 s in (rw e at (best-is n needs c L)) t (w .0) (w .1),
+    λ f. go f (best n (runsb n needs c) L) (best-is n needs c L),
+  )
     where
       go : ((t : List ℕ) → Satisfies n needs c L t → ⊥) → (o : Option (List ℕ)) → BestWithin n L (Runs n needs c) o → o ≡ none
       go f none h = refl

@@ -1,4 +1,5 @@
--- The rules with boards imply the rules without, and the parts of the giving of boards: a giver in the slot before, the lowest free board, sweeps. Assumes nothing.
+-- The rules with boards imply the rules without, and the parts of the giving of boards: a giver in the slot before, the lowest free board, sweeps.
+-- Assumes nothing.
 use mathlib.Core.Path.{_≡_, sym, ap, _∙_}
 use mathlib.Core.Logic.{_≢_, _⊎_, inl, inr}
 use mathlib.Core.Bool.{Bool, true, false, _&&_}
@@ -22,8 +23,10 @@ use Rattle.laws.specs.Counting.{pigeonhole, rising-distinct, length-rang
 pub rules-kept : (n : ℕ) (needs : List Need) (t b : List ℕ) → NeedsIn n needs → BoardRules n needs t b → Kept (Gives needs) (at t)
 rules-kept n needs t b needs-in rules = record {
   later = λ g k a. later g k a (ℕ-discrete (at b k) (at b g));
-  give-one = λ g j k a c p q. rules .apart j k (needs-in g j a .1) (needs-in g k c .1) (p ∙ sym q) (beside g j a p (ℕ-discrete (at b j) (at b g)) ∙ sym (beside g k c q (ℕ-discrete (at b k) (at b g))));
-  take-one = λ i j k a c p q. rules .apart i j (needs-in i k a .0) (needs-in j k c .0) (omega (arith, p, q)) (sym (beside i k a (sym p) (ℕ-discrete (at b k) (at b i))) ∙ beside j k c (sym q) (ℕ-discrete (at b k) (at b j)));
+  give-one = λ g j k a c p q. rules .apart j k (needs-in g j a .1) (needs-in g k c .1) (p ∙ sym q) (beside g j a p (ℕ-discrete (at b j) (at b g))
+      ∙ sym (beside g k c q (ℕ-discrete (at b k) (at b g))));
+  take-one = λ i j k a c p q. rules .apart i j (needs-in i k a .0) (needs-in j k c .0) (omega (arith, p, q))
+      (sym (beside i k a (sym p) (ℕ-discrete (at b k) (at b i))) ∙ beside j k c (sym q) (ℕ-discrete (at b k) (at b j)));
 }
   where
     later : (g k : ℕ) → Gives needs g k → Dec (at b k ≡ at b g) → at t g + 1 ≤ at t k
@@ -44,7 +47,8 @@ pub data GiverBefore (needs : List Need) (t : List ℕ) (i : ℕ) : Option ℕ �
 pub giver-before : (needs : List Need) (t : List ℕ) (i : ℕ) → GiverBefore needs t i (giverBefore needs t i)
 unfolding giverBefore choose
 giver-before [] t i = nobody (λ g m. absurd (List·Memᴰ·not-nil m))
-giver-before (d ∷ ds) t i = go (eqb (d .1) i && eqb (at t (d .0) + 1) (at t i)) (λ h. simp tests at h) (λ h. simp tests h) (giverBefore ds t i) (giver-before ds t i)
+giver-before (d ∷ ds) t i = go (eqb (d .1) i && eqb (at t (d .0) + 1) (at t i)) (λ h. simp tests at h) (λ h. simp tests h) (giverBefore ds t i)
+    (giver-before ds t i)
   where
     go : (b : Bool) → (T b → (d .1 ≡ i) × (at t (d .0) + 1 ≡ at t i)) → ((d .1 ≡ i) × (at t (d .0) + 1 ≡ at t i) → T b)
         → (o : Option ℕ) → GiverBefore ds t i o → GiverBefore (d ∷ ds) t i (choose b (some (d .0)) o)
@@ -64,7 +68,8 @@ unfolding lowestFree choose
 lowest-all zero c u j l h = absurd (omega arith)
 lowest-all (suc k) c u j l h = go (has c u) (T-has c u .0) h (ℕ-discrete j c) (λ a b. lowest-all k (suc c) u j a b)
   where
-    go : (b : Bool) → (T b → List·Memᴰ c u) → j < choose b (lowestFree k (suc c) u) c → Dec (j ≡ c) → (suc c ≤ j → j < lowestFree k (suc c) u → List·Memᴰ j u) → List·Memᴰ j u
+    go : (b : Bool) → (T b → List·Memᴰ c u) → j < choose b (lowestFree k (suc c) u) c → Dec (j ≡ c) → (suc c ≤ j → j < lowestFree k (suc c) u → List·Memᴰ j u)
+        → List·Memᴰ j u
     go true f h (yes e) r = rw e (f tt)
     go true f h (no e) r = r (omega arith) h
     go false f h d r = absurd (omega arith)
@@ -84,7 +89,8 @@ unfolding lowestFree choose
 lowest-in zero c u = omega arith
 lowest-in (suc k) c u = go (has c u) (lowest-in k (suc c) u)
   where
-    go : (b : Bool) → (suc c ≤ lowestFree k (suc c) u) × (lowestFree k (suc c) u ≤ suc c + k) → (c ≤ choose b (lowestFree k (suc c) u) c) × (choose b (lowestFree k (suc c) u) c ≤ c + suc k)
+    go : (b : Bool) → (suc c ≤ lowestFree k (suc c) u) × (lowestFree k (suc c) u ≤ suc c + k) → (c ≤ choose b (lowestFree k (suc c) u) c)
+        × (choose b (lowestFree k (suc c) u) c ≤ c + suc k)
     go true r = omega arith
     go false r = omega arith
 
@@ -109,7 +115,8 @@ lowest-new k u h m = omega (arith, length-range (suc k) 1, pigeonhole (range (su
 -- ---- sweeps
 
 -- what each step keeps holds at the end
-pub sweep-inv : {A : Type 0} (P : ℕ → A → Type 0) (f : ℕ → A → A) (k i : ℕ) → ((j : ℕ) (z : A) → i ≤ j → j < i + k → P j z → P (suc j) (f j z)) → (z : A) → P i z → P (i + k) (sweep f k i z)
+pub sweep-inv : {A : Type 0} (P : ℕ → A → Type 0) (f : ℕ → A → A) (k i : ℕ) → ((j : ℕ) (z : A) → i ≤ j → j < i + k → P j z → P (suc j) (f j z)) → (z : A)
+    → P i z → P (i + k) (sweep f k i z)
 unfolding sweep
 sweep-inv P f zero i h z p = rw add-zero p
 sweep-inv P f (suc k) i h z p =

@@ -87,13 +87,20 @@ module _ (n : ℕ) (needs : List Need) (needs-in : NeedsIn n needs) (t : List �
         split i w (no p) = inr (in-first x i .1 (omega (arith, w .0), w .1))
 
         next : (at t x ≡ s → ¬ T (inheritsb x)) → (i : ℕ) → i < n → at t i ≡ s → T (first x i) ↔ T (first (suc x) i)
-        next k i l e = (up i, λ h. let w = in-first (suc x) i .0 h in ⊎-elim (λ q. absurd (k (ap (at t) (sym q) ∙ e) (rw q at (w .1)))) (λ q. q) (split i w (ℕ-discrete i x)))
+        next k i l e = (
+          up i,
+          λ h. let w = in-first (suc x) i .0 h in
+              ⊎-elim (λ q. absurd (k (ap (at t) (sym q) ∙ e) (rw q at (w .1)))) (λ q. q) (split i w (ℕ-discrete i x)),
+        )
 
-        go : (b : Bool) → T b ↔ (at t x ≡ s) → (o : Option ℕ) → giverBefore needs t x ≡ o → GiverBefore needs t x o → Now (first (suc x)) (choose b (inherit o x z) z)
+        go : (b : Bool) → T b ↔ (at t x ≡ s) → (o : Option ℕ) → giverBefore needs t x ≡ o → GiverBefore needs t x o
+            → Now (first (suc x)) (choose b (inherit o x z) z)
         go false f o e v = placed-same n needs t M s b₀ needs-in (first x) (first (suc x)) z (next (λ q. absurd (f .1 q))) m
-        go true f _ e (nobody k) = placed-same n needs t M s b₀ needs-in (first x) (first (suc x)) z (next (λ q d. let w = has-giver x d in k (w .0) (w .1) (w .2))) m
+        go true f _ e (nobody k) = placed-same n needs t M s b₀ needs-in (first x) (first (suc x)) z
+            (next (λ q d. let w = has-giver x d in k (w .0) (w .1) (w .2))) m
         go true f _ e (giver g a q) =
-            placed-more n needs t M s b₀ needs-in (first x) (first (suc x)) z x (at (z .1) g) (omega arith) (f .0 tt) (λ d. omega (arith, in-first x x .0 d)) (in-first (suc x) x .1 (omega arith, some-is))
+            placed-more n needs t M s b₀ needs-in (first x) (first (suc x)) z x (at (z .1) g) (omega arith) (f .0 tt) (λ d. omega (arith, in-first x x .0 d))
+            (in-first (suc x) x .1 (omega arith, some-is))
             (λ i l u. up i) (λ i l u d. split i (in-first (suc x) i .0 d) (ℕ-discrete i x))
             (rw same (old .low g g-in g-past)) (rw same (old .bound g g-in g-past))
             (λ i l u d v. omega (arith, in-first x i .0 d, one-taker i l u (in-first x i .0 d .1) d v))
@@ -141,7 +148,10 @@ module _ (n : ℕ) (needs : List Need) (needs-in : NeedsIn n needs) (t : List �
     between : (z : Placing) → Now (first n) z → Now (second 0) z
     between z m =
         placed-same n needs t M s b₀ needs-in (first n) (second 0) z
-        (λ i l e. (λ h. inherits-second 0 i (in-first n i .0 h .1), λ h. ⊎-elim (λ q. in-first n i .1 (l, q)) (λ q. absurd (omega (arith, q))) (in-second 0 i h))) m
+        (λ i l e. (
+          λ h. inherits-second 0 i (in-first n i .0 h .1),
+          λ h. ⊎-elim (λ q. in-first n i .1 (l, q)) (λ q. absurd (omega (arith, q))) (in-second 0 i h),
+        )) m
 
     step-second : (x : ℕ) (z : Placing) → 0 ≤ x → x < 0 + n → Now (second x) z → Now (second (suc x)) (firstFitIn needs t s x z)
     unfolding firstFitIn firstFit choose
@@ -160,14 +170,16 @@ module _ (n : ℕ) (needs : List Need) (needs-in : NeedsIn n needs) (t : List �
         next : (at t x ≡ s → T (second x x)) → (i : ℕ) → i < n → at t i ≡ s → T (second x i) ↔ T (second (suc x) i)
         next k i l e = (up i, λ h. ⊎-elim (λ q. rw q (k (ap (at t) (sym q) ∙ e))) (λ q. q) (split i h))
 
-        go : (b : Bool) → T b ↔ (at t x ≡ s) → (o : Option ℕ) → giverBefore needs t x ≡ o → GiverBefore needs t x o → Now (second (suc x)) (choose b (firstFit o x z) z)
+        go : (b : Bool) → T b ↔ (at t x ≡ s) → (o : Option ℕ) → giverBefore needs t x ≡ o → GiverBefore needs t x o
+            → Now (second (suc x)) (choose b (firstFit o x z) z)
         go false f o e v = placed-same n needs t M s b₀ needs-in (second x) (second (suc x)) z (next (λ q. absurd (f .1 q))) m
         go true f _ e (giver g a q) = placed-same n needs t M s b₀ needs-in (second x) (second (suc x)) z (next (λ u. inherits-second x x some-is)) m
           where
             some-is : T (inheritsb x)
             some-is = unfold inheritsb isSome in rw e tt
         go true f _ e (nobody k) =
-            placed-more n needs t M s b₀ needs-in (second x) (second (suc x)) z x (lowestFree (length (z .0)) 1 (z .0)) (omega arith) (f .0 tt) out (below-second (suc x) x (omega arith)) (λ i l u. up i) (λ i l u. split i)
+            placed-more n needs t M s b₀ needs-in (second x) (second (suc x)) z x (lowestFree (length (z .0)) 1 (z .0)) (omega arith) (f .0 tt) out
+            (below-second (suc x) x (omega arith)) (λ i l u. up i) (λ i l u. split i)
             (lowest-in (length (z .0)) 1 (z .0) .0) (omega (arith, lowest-in (length (z .0)) 1 (z .0) .1, m .size, room, full))
             (λ i l u d v. lowest-new (length (z .0)) (z .0) (omega arith) (rw v at (m .used i l u d))) (λ g a u. absurd (k g a (u ∙ sym (f .0 tt))))
             (λ w. lowest-free) last m
@@ -210,12 +222,14 @@ module _ (n : ℕ) (needs : List Need) (needs-in : NeedsIn n needs) (t : List �
 
             room : count (λ i. inSlot t s i && second x i) n < count (inSlot t s) n
             room = unfold inSlot in
-                count-lt (λ i. inSlot t s i && second x i) (inSlot t s) n x (λ i l p. T-and (inSlot t s i) (second x i) .0 p .0) (omega arith) (λ p. out (T-and (inSlot t s x) (second x x) .0 p .1)) (T-eqb (at t x) s .1 (f .0 tt))
+                count-lt (λ i. inSlot t s i && second x i) (inSlot t s) n x (λ i l p. T-and (inSlot t s i) (second x i) .0 p .0) (omega arith)
+                (λ p. out (T-and (inSlot t s x) (second x x) .0 p .1)) (T-eqb (at t x) s .1 (f .0 tt))
 
     -- the slots before s + 1 have their boards
     pub slot-given : Given n needs t M (suc s) (slotBoards n needs t s b₀)
     unfolding slotBoards
-    slot-given = finish (sweep (firstFitIn needs t s) n 0 z₁) (rw zero-add at (sweep-inv (λ x z. Now (second x) z) (firstFitIn needs t s) n 0 step-second z₁ (between z₁ first-done)))
+    slot-given = finish (sweep (firstFitIn needs t s) n 0 z₁)
+        (rw zero-add at (sweep-inv (λ x z. Now (second x) z) (firstFitIn needs t s) n 0 step-second z₁ (between z₁ first-done)))
       where
         z₁ : Placing
         z₁ = sweep (inheritIn needs t s) n 0 ([], b₀)
@@ -229,7 +243,8 @@ module _ (n : ℕ) (needs : List Need) (needs-in : NeedsIn n needs) (t : List �
           low = λ i l h. by (λ q. rw (m .past i l q) (old .low i l q)) (λ q. m .low i l q (done i l)) (decLt (at t i) s) h;
           bound = λ i l h. by (λ q. rw (m .past i l q) (old .bound i l q)) (λ q. m .bound i l q (done i l)) (decLt (at t i) s) h;
           apart = λ i j l k h e v.
-              by (λ q. old .apart i j l k q e (sym (m .past i l q) ∙ v ∙ m .past j k (omega (arith, e)))) (λ q. m .apart i j l k q (sym e ∙ q) (done i l) (done j k) v) (decLt (at t i) s) h;
+              by (λ q. old .apart i j l k q e (sym (m .past i l q) ∙ v ∙ m .past j k (omega (arith, e))))
+              (λ q. m .apart i j l k q (sym e ∙ q) (done i l) (done j k) v) (decLt (at t i) s) h;
           inherits = λ g k a h e. let u = needs-in g k a in
               by (λ q. m .past k (u .1) q ∙ old .inherits g k a q e ∙ sym (m .past g (u .0) (omega (arith, e))))
               (λ q. m .inherits g k a q (done k (u .1)) (e ∙ q) ∙ sym (m .past g (u .0) (omega (arith, e)))) (decLt (at t k) s) h;

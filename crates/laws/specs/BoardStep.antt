@@ -82,17 +82,20 @@ module _ (n : ℕ) (needs : List Need) (t : List ℕ) (M : ℕ) where
       placed-more D E z x c lx ex out inn up split c-low c-bound new c-inherits c-lowest last m = record {
         len = length-set (z .1) x c ∙ m .len;
         past = λ i l h. rest i (λ e. omega (arith, ap (at t) e)) ∙ m .past i l h;
-        used = λ i l e d. ⊎-elim (λ q. List·Memᴰ·head (here i q)) (λ q. List·Memᴰ·tail {xs = z .0} (rw (rest i (apart-from i q)) (m .used i l e q))) (split i l e d);
+        used = λ i l e d. ⊎-elim (λ q. List·Memᴰ·head (here i q)) (λ q. List·Memᴰ·tail {xs = z .0} (rw (rest i (apart-from i q)) (m .used i l e q)))
+            (split i l e d);
         users = λ v k. user v (List·Memᴰ·cases-cons k);
         low = λ i l e d. ⊎-elim (λ q. rw (here i q) c-low) (λ q. rw (rest i (apart-from i q)) (m .low i l e q)) (split i l e d);
         bound = λ i l e d. ⊎-elim (λ q. rw (here i q) c-bound) (λ q. rw (rest i (apart-from i q)) (m .bound i l e q)) (split i l e d);
         apart = λ i j l k e f p q h. both i j l k e f (split i l e p) (split j k f q) h;
-        inherits = λ g i a e d h. ⊎-elim (λ q. here i q ∙ c-inherits g (rw q at a) h) (λ q. rest i (apart-from i q) ∙ m .inherits g i a e q h) (split i (needs-in g i a .1) e d);
+        inherits = λ g i a e d h. ⊎-elim (λ q. here i q ∙ c-inherits g (rw q at a) h) (λ q. rest i (apart-from i q)
+            ∙ m .inherits g i a e q h) (split i (needs-in g i a .1) e d);
         lowest = λ i l e d k. lowest-now i l e d k (split i l e d);
         size = omega (
           arith,
           m .size,
-          count-lt (λ i. inSlot t s i && D i) (λ i. inSlot t s i && E i) n x (λ i l p. let w = simp tests at p in simp tests (w .0, up i l (w .0) (w .1))) lx (λ p. out ((simp tests at p) .1)) (simp tests (ex, inn)),
+          count-lt (λ i. inSlot t s i && D i) (λ i. inSlot t s i && E i) n x (λ i l p. let w = simp tests at p in simp tests (w .0, up i l (w .0) (w .1))) lx
+              (λ p. out ((simp tests at p) .1)) (simp tests (ex, inn)),
         );
       }
         where
@@ -120,7 +123,8 @@ module _ (n : ℕ) (needs : List Need) (t : List ℕ) (M : ℕ) where
           lowest-now i l e d k (inr q) =
               rw (rest i (apart-from i q)) (lowest-same n needs t (z .1) (set (z .1) x c) i (at (z .1) i) (as-before i l e d k) (m .lowest i l e q k))
 
-          both : (i j : ℕ) → i < n → j < n → at t i ≡ s → at t j ≡ s → (i ≡ x) ⊎ T (D i) → (j ≡ x) ⊎ T (D j) → at (set (z .1) x c) i ≡ at (set (z .1) x c) j → i ≡ j
+          both : (i j : ℕ) → i < n → j < n → at t i ≡ s → at t j ≡ s → (i ≡ x) ⊎ T (D i) → (j ≡ x) ⊎ T (D j) → at (set (z .1) x c) i ≡ at (set (z .1) x c) j → i
+              ≡ j
           both i j l k e f (inl p) (inl q) h = p ∙ sym q
           both i j l k e f (inl p) (inr q) h = absurd (new j k f q (sym (rest j (apart-from j q)) ∙ sym h ∙ here i p))
           both i j l k e f (inr p) (inl q) h = absurd (new i l e p (sym (rest i (apart-from i p)) ∙ h ∙ here j q))

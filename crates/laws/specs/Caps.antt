@@ -19,7 +19,10 @@ use Rattle.laws.specs.Program.{kept-is}
 -- the fullest slot has no more than c jobs exactly where no slot has
 pub capped-is : (n c : ℕ) (t : List ℕ) → T (cappedb n c t) ↔ Capped n c t
 unfolding cappedb fullest inSlot slots
-capped-is n c t = (λ h. record { few = λ s. few s (T-leb (fullest n t) c .0 h) (decLt s (slots t)) }, λ k. T-leb (fullest n t) c .1 (most-le (λ s. count (inSlot t s) n) (slots t) c (λ s h. k .few s)))
+capped-is n c t = (
+  λ h. record { few = λ s. few s (T-leb (fullest n t) c .0 h) (decLt s (slots t)) },
+  λ k. T-leb (fullest n t) c .1 (most-le (λ s. count (inSlot t s) n) (slots t) c (λ s h. k .few s)),
+)
   where
     few : (s : ℕ) → fullest n t ≤ c → Dec (s < slots t) → count (inSlot t s) n ≤ c
     few s h (yes l) = omega (arith, most-ge (λ s. count (inSlot t s) n) (slots t) s l)
@@ -44,7 +47,14 @@ before-few n c t k zero = omega (arith, count-none (λ i. ltb (at t i) zero) n (
 before-few n c t k (suc s) =
     let e : suc s ≡ s + 1 = omega arith in
     let m : suc s * c ≡ s * c + 1 * c = ap (λ (x : ℕ). x * c) e ∙ add-mul s 1 c in
-    omega (arith, before-few n c t k s, k .few s, one-mul c, count-either (λ i. ltb (at t i) (suc s)) (λ i. ltb (at t i) s) (inSlot t s) n (λ i _ q. at-or-before i (T-ltb (at t i) (suc s) .0 q) (decLt (at t i) s)))
+    omega (
+      arith,
+      before-few n c t k s,
+      k .few s,
+      one-mul c,
+      count-either (λ i. ltb (at t i) (suc s)) (λ i. ltb (at t i) s) (inSlot t s) n
+          (λ i _ q. at-or-before i (T-ltb (at t i) (suc s) .0 q) (decLt (at t i) s)),
+    )
   where
     at-or-before : (i : ℕ) → at t i < suc s → Dec (at t i < s) → T (ltb (at t i) s) ⊎ T (inSlot t s i)
     at-or-before i h (yes l) = inl (T-ltb (at t i) s .1 l)
@@ -52,4 +62,8 @@ before-few n c t k (suc s) =
 
 pub capped-slots : (n c : ℕ) (t : List ℕ) → length t ≡ n → Capped n c t → n ≤ slots t * c
 unfolding slots
-capped-slots n c t len k = omega (arith, before-few n c t k (slots t), count-all (λ i. ltb (at t i) (slots t)) n (λ i h. T-ltb (at t i) (slots t) .1 (omega (arith, at-largest t i (omega (arith, len))))))
+capped-slots n c t len k = omega (
+  arith,
+  before-few n c t k (slots t),
+  count-all (λ i. ltb (at t i) (slots t)) n (λ i h. T-ltb (at t i) (slots t) .1 (omega (arith, at-largest t i (omega (arith, len))))),
+)

@@ -95,7 +95,8 @@ module _ (n : ℕ) (needs : List Need) (needs-in : NeedsIn n needs) where
       stuck k = unfold giversMarked in t (rw (round-step n f needs i h) k)
 
       go : (d : Need) × List·Memᴰ d needs × ¬ T (imp (eqb (d .1) i) (marked (rounds n needs f) (d .0)))
-          → ((j : ℕ) → j < n → ¬ T (marked (rounds n needs f) j) → (vs : List ℕ) × (length vs ≡ f) × Walk j vs) → (vs : List ℕ) × (length vs ≡ suc f) × Walk i vs
+          → ((j : ℕ) → j < n → ¬ T (marked (rounds n needs f) j) → (vs : List ℕ) × (length vs ≡ f) × Walk j vs) → (vs : List ℕ) × (length vs ≡ suc f)
+          × Walk i vs
       go (d, m, k) r =
           let c = not-imp (eqb (d .1) i) (marked (rounds n needs f) (d .0)) k in
           let w = r (d .0) (needs-in (d .0) (d .1) m .0) (c .1) in
@@ -105,7 +106,12 @@ module _ (n : ℕ) (needs : List Need) (needs-in : NeedsIn n needs) where
   repeats i h t = let w = walk-back n i h t in go (w .0) (w .1) (w .2) (walk-or i (w .0) (w .2))
     where
       go : (vs : List ℕ) → length vs ≡ n → Walk i vs → Distinct (i ∷ vs) ⊎ Circle needs → Circle needs
-      go vs len w (inl d) = absurd (omega (arith, len, length-range n 0, pigeonhole (i ∷ vs) (range n 0) d (λ y m. range-below n y .1 (below y (List·Memᴰ·cases-cons m)))))
+      go vs len w (inl d) = absurd (omega (
+        arith,
+        len,
+        length-range n 0,
+        pigeonhole (i ∷ vs) (range n 0) d (λ y m. range-below n y .1 (below y (List·Memᴰ·cases-cons m))),
+      ))
         where
           below : (y : ℕ) → (y ≡ i) ⊎ List·Memᴰ y vs → y < n
           below y (inl e) = omega arith
@@ -124,7 +130,8 @@ module _ (n : ℕ) (needs : List Need) (needs-in : NeedsIn n needs) where
   pub circle-free : T (circleFree n needs) ↔ (¬ (Circle needs))
   unfolding circleFree
   circle-free = (
-    λ t c. marked-free n n (c .0) (omega arith) (T-all (marked (rounds n needs n)) (range n 0) .0 t (c .0) (range-below n (c .0) .1 (start-in (c .0) (c .0) (c .1)))) (c .1),
+    λ t c. marked-free n n (c .0) (omega arith)
+        (T-all (marked (rounds n needs n)) (range n 0) .0 t (c .0) (range-below n (c .0) .1 (start-in (c .0) (c .0) (c .1)))) (c .1),
     λ k. T-all (marked (rounds n needs n)) (range n 0) .1 (λ i m. free-marked k i (range-below n i .0 m)),
   )
 

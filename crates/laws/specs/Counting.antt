@@ -2,7 +2,8 @@
 use mathlib.Core.Path.{_≡_, refl, sym, ap, subst, _∙_}
 use mathlib.Core.Logic.{_⊎_, inl, inr, ⊎-elim, _↔_}
 use mathlib.Core.Bool.{Bool, true, false}
-use mathlib.Core.List.{List, [], _∷_, _++_, map, List·Memᴰ, List·Memᴰ·head, List·Memᴰ·tail, List·Memᴰ·cases-cons, List·Memᴰ·not-nil, List·Memᴰ·append-cases, Memᴰ·append-left, Memᴰ·append-right}
+use mathlib.Core.List.{List, [], _∷_, _++_, map, List·Memᴰ, List·Memᴰ·head, List·Memᴰ·tail, List·Memᴰ·cases-cons, List·Memᴰ·not-nil, List·Memᴰ·append-cases}
+use mathlib.Core.List.{Memᴰ·append-left, Memᴰ·append-right}
 use Prim.Native.Nat.{ℕ, zero, suc, _+_, _≤_, _<_, max}
 use native.Mathlib.Omega.{arith}
 use native.Mathlib.Decide.{ℕ-discrete}
@@ -45,13 +46,15 @@ less {A} x (y ∷ ys) m = go (List·Memᴰ·cases-cons m) (less x ys)
         pick z (inr q) = more z (r w .other z q)
 
 -- each of the distinct xs goes with an entry of ys, and no two of them with the same one
-pub pigeonhole-by : {A B : Type 0} (R : A → B → Type 0) (xs : List A) (ys : List B) → Distinct xs → ((x : A) → List·Memᴰ x xs → (y : B) × List·Memᴰ y ys × R x y)
+pub pigeonhole-by : {A B : Type 0} (R : A → B → Type 0) (xs : List A) (ys : List B) → Distinct xs
+    → ((x : A) → List·Memᴰ x xs → (y : B) × List·Memᴰ y ys × R x y)
     → ((x z : A) (y : B) → List·Memᴰ x xs → List·Memᴰ z xs → R x y → R z y → x ≡ z) → length xs ≤ length ys
 pigeonhole-by R [] ys d h one = omega arith
 pigeonhole-by {A} {B} R (x ∷ xs) ys d h one = go (h x (List·Memᴰ·head refl)) (pigeonhole-by R xs)
   where
     go : (y : B) × List·Memᴰ y ys × R x y
-        → ((zs : List B) → Distinct xs → ((z : A) → List·Memᴰ z xs → (y : B) × List·Memᴰ y zs × R z y) → ((a b : A) (y : B) → List·Memᴰ a xs → List·Memᴰ b xs → R a y → R b y → a ≡ b) → length xs ≤ length zs)
+        → ((zs : List B) → Distinct xs → ((z : A) → List·Memᴰ z xs → (y : B) × List·Memᴰ y zs × R z y)
+        → ((a b : A) (y : B) → List·Memᴰ a xs → List·Memᴰ b xs → R a y → R b y → a ≡ b) → length xs ≤ length zs)
         → suc (length xs) ≤ length ys
     go (y, m, r) rec = omega (arith, w .size, rec (w .rest) (d .1) other (λ a b c p q. one a b c (List·Memᴰ·tail p) (List·Memᴰ·tail q)))
       where
@@ -59,8 +62,11 @@ pigeonhole-by {A} {B} R (x ∷ xs) ys d h one = go (h x (List·Memᴰ·head refl
         w = less y ys m
 
         other : (z : A) → List·Memᴰ z xs → (v : B) × List·Memᴰ v (w .rest) × R z v
-        other z k = let v = h z (List·Memᴰ·tail k) in
-            (v .0, ⊎-elim (λ e. absurd (d .0 (rw (one x z y (List·Memᴰ·head refl) (List·Memᴰ·tail k) r (rw e at (v .2))) k))) (λ q. q) (w .other (v .0) (v .1)), v .2)
+        other z k = let v = h z (List·Memᴰ·tail k) in (
+          v .0,
+          ⊎-elim (λ e. absurd (d .0 (rw (one x z y (List·Memᴰ·head refl) (List·Memᴰ·tail k) r (rw e at (v .2))) k))) (λ q. q) (w .other (v .0) (v .1)),
+          v .2,
+        )
 
 pub pigeonhole : {A : Type 0} (xs ys : List A) → Distinct xs → ((z : A) → List·Memᴰ z xs → List·Memᴰ z ys) → length xs ≤ length ys
 pigeonhole xs ys d h = pigeonhole-by (λ x y. x ≡ y) xs ys d (λ x m. (x, h x m, refl)) (λ x z y _ _ p q. p ∙ sym q)
@@ -128,12 +134,16 @@ length-range (suc k) i = ap suc (length-range k (suc i))
 
 pub count-le : (p q : ℕ → Bool) (n : ℕ) → ((i : ℕ) → i < n → T (p i) → T (q i)) → count p n ≤ count q n
 unfolding count
-count-le p q n h = pigeonhole (passing p n) (passing q n) (passing-distinct p n) (λ i m. let w = passing-in p n i .0 m in passing-in q n i .1 (w .0, h i (w .0) (w .1)))
+count-le p q n h = pigeonhole (passing p n) (passing q n) (passing-distinct p n) (λ i m. let w = passing-in p n i .0 m in
+    passing-in q n i .1 (w .0, h i (w .0) (w .1)))
 
 -- one more
 pub count-lt : (p q : ℕ → Bool) (n x : ℕ) → ((i : ℕ) → i < n → T (p i) → T (q i)) → x < n → ¬ T (p x) → T (q x) → count p n < count q n
 unfolding count
-count-lt p q n x h l a b = pigeonhole (x ∷ passing p n) (passing q n) (λ m. a (passing-in p n x .0 m .1), passing-distinct p n) (λ i m. go i (List·Memᴰ·cases-cons m))
+count-lt p q n x h l a b = pigeonhole (x ∷ passing p n) (passing q n) (
+  λ m. a (passing-in p n x .0 m .1),
+  passing-distinct p n,
+) (λ i m. go i (List·Memᴰ·cases-cons m))
   where
     go : (i : ℕ) → (i ≡ x) ⊎ List·Memᴰ i (passing p n) → List·Memᴰ i (passing q n)
     go i (inl e) = passing-in q n i .1 (rw e (l, b))
@@ -153,7 +163,12 @@ count-none p n h = omega (arith, pigeonhole (passing p n) [] (passing-distinct p
 -- all of them
 pub count-all : (p : ℕ → Bool) (n : ℕ) → ((i : ℕ) → i < n → T (p i)) → n ≤ count p n
 unfolding count
-count-all p n h = omega (arith, length-range n 0, pigeonhole (range n 0) (passing p n) (rising-distinct (range n 0) (range-rising n 0)) (λ i m. let l = range-below n i .0 m in passing-in p n i .1 (l, h i l)))
+count-all p n h = omega (
+  arith,
+  length-range n 0,
+  pigeonhole (range n 0) (passing p n) (rising-distinct (range n 0) (range-rising n 0)) (λ i m. let l = range-below n i .0 m in
+      passing-in p n i .1 (l, h i l)),
+)
 
 -- no more than of two others together
 pub count-either : (q p r : ℕ → Bool) (n : ℕ) → ((i : ℕ) → i < n → T (q i) → T (p i) ⊎ T (r i)) → count q n ≤ count p n + count r n
@@ -162,13 +177,18 @@ count-either q p r n h = omega (
   arith,
   length-append (passing p n) (passing r n),
   pigeonhole (passing q n) (passing p n ++ passing r n) (passing-distinct q n) (λ i m. let w = passing-in q n i .0 m in
-      ⊎-elim (λ t. Memᴰ·append-left (passing r n) (passing-in p n i .1 (w .0, t))) (λ t. Memᴰ·append-right (passing p n) (passing-in r n i .1 (w .0, t))) (h i (w .0) (w .1))),
+      ⊎-elim (λ t. Memᴰ·append-left (passing r n) (passing-in p n i .1 (w .0, t))) (λ t. Memᴰ·append-right (passing p n) (passing-in r n i .1 (w .0, t)))
+      (h i (w .0) (w .1))),
 )
 
 -- no more than there are
 pub count-most : (p : ℕ → Bool) (n : ℕ) → count p n ≤ n
 unfolding count
-count-most p n = omega (arith, length-range n 0, pigeonhole (passing p n) (range n 0) (passing-distinct p n) (λ i m. range-below n i .1 (passing-in p n i .0 m .0)))
+count-most p n = omega (
+  arith,
+  length-range n 0,
+  pigeonhole (passing p n) (range n 0) (passing-distinct p n) (λ i m. range-below n i .1 (passing-in p n i .0 m .0)),
+)
 
 -- what passes has distinct values from 1 to B: there are at most B
 pub count-values : (p : ℕ → Bool) (n : ℕ) (f : ℕ → ℕ) (B : ℕ) → ((i j : ℕ) → i < n → j < n → T (p i) → T (p j) → f i ≡ f j → i ≡ j)

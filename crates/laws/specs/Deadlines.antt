@@ -138,7 +138,8 @@ module _ (n : ℕ) (needs : List Need) (needs-in : NeedsIn n needs) where
     deadline-formula i l =
         record {
           no-taker = λ k. rw (f .no-giver (λ g m. k g (swap-gives needs g i .0 m))) (sym (diff-zero L));
-          lone = λ j a c. ap due (f .lone j (swap-gives needs j i .1 a) (λ g m q. diff-lt L (r j) (r g) .0 (c g (swap-gives needs g i .0 m) q))) ∙ sym (diff-more L (r j) 0);
+          lone = λ j a c. ap due (f .lone j (swap-gives needs j i .1 a) (λ g m q. diff-lt L (r j) (r g) .0 (c g (swap-gives needs g i .0 m) q)))
+              ∙ sym (diff-more L (r j) 0);
           tied = λ j k a b q p c. ap due (f .tied j k (swap-gives needs j i .1 a) (swap-gives needs k i .1 b) q (diff-eq L (r j) (r k) p)
               (λ g m. diff-le L (r j) (r g) .0 (c g (swap-gives needs g i .0 m)))) ∙ sym (diff-more L (r j) 1);
         }
@@ -160,9 +161,11 @@ module _ (n : ℕ) (needs : List Need) (needs-in : NeedsIn n needs) where
     swap-kept = record {
       later = λ g k m. let a = swap-gives needs g k .0 m in omega (arith, kept .later k g a, below-C g (needs-in k g a .1));
       give-one = λ g j k m w p q. let a = swap-gives needs g j .0 m in let b = swap-gives needs g k .0 w in
-          kept .take-one j k g a b (omega (arith, below-C g (needs-in j g a .1), below-C j (needs-in j g a .0))) (omega (arith, below-C g (needs-in j g a .1), below-C k (needs-in k g b .0)));
+          kept .take-one j k g a b (omega (arith, below-C g (needs-in j g a .1), below-C j (needs-in j g a .0)))
+          (omega (arith, below-C g (needs-in j g a .1), below-C k (needs-in k g b .0)));
       take-one = λ i j k m w p q. let a = swap-gives needs i k .0 m in let b = swap-gives needs j k .0 w in
-          kept .give-one k i j a b (omega (arith, below-C i (needs-in k i a .1), below-C k (needs-in k i a .0))) (omega (arith, below-C j (needs-in k j b .1), below-C k (needs-in k i a .0)));
+          kept .give-one k i j a b (omega (arith, below-C i (needs-in k i a .1), below-C k (needs-in k i a .0)))
+          (omega (arith, below-C j (needs-in k j b .1), below-C k (needs-in k i a .0)));
     }
 
     -- the tail of a job fits between its end and the makespan, whatever the number f of rounds
@@ -174,4 +177,7 @@ pub windows-kept : (n : ℕ) (needs : List Need) (C : ℕ) (t : List ℕ) → Di
     → (i : ℕ) → i < n → Holds (pos (release n needs i)) (pos C -ℤ pos (tail n needs i)) (at t i)
 windows-kept n needs C t u needs-in s i h =
     let w = program-is n needs C t u needs-in .0 s in
-    holds-is C (release n needs i) (tail n needs i) (at t i) .1 (release-le needs (at t) (w .0) n n i, tail-le n needs needs-in C (at t) (w .0) (w .1 .below) n i h)
+    holds-is C (release n needs i) (tail n needs i) (at t i) .1 (
+      release-le needs (at t) (w .0) n n i,
+      tail-le n needs needs-in C (at t) (w .0) (w .1 .below) n i h,
+    )

@@ -130,7 +130,8 @@ module _ {A : Type 0} (step : A → ℕ → Answer A) where
   overFields-enough (suc k) bs a s l = go (step s a) (λ t. overFields-enough k bs (fieldEnd bs a) t)
     where
       go : (r : Answer A) → ((t : A) → length bs - fieldEnd bs a ≤ k → overFields step (suc k) bs (fieldEnd bs a) t ≡ overFields step k bs (fieldEnd bs a) t)
-          → choose (ltb a (length bs)) (after r (λ t. overFields step (suc k) bs (fieldEnd bs a) t)) (got s) ≡ choose (ltb a (length bs)) (after r (λ t. overFields step k bs (fieldEnd bs a) t)) (got s)
+          → choose (ltb a (length bs)) (after r (λ t. overFields step (suc k) bs (fieldEnd bs a) t)) (got s)
+          ≡ choose (ltb a (length bs)) (after r (λ t. overFields step k bs (fieldEnd bs a) t)) (got s)
       go (refused q) f = refl
       go (got t) f = ap (λ (r : Answer A). choose (ltb a (length bs)) r (got s)) (f t (omega (arith, after-head bs a)))
 

@@ -67,7 +67,8 @@ unfolding slotRow
 row-same s [] [] e h = refl
 row-same s [] (y ∷ u) e h = absurd (omega arith)
 row-same s (x ∷ r) [] e h = absurd (omega arith)
-row-same s (x ∷ r) (y ∷ u) e h = ap₂ (λ (b : Bool) (l : List Bool). b ∷ l) (eqb-same x y s (h 0 (omega arith))) (row-same s r u (omega arith) (λ i p. h (suc i) (omega arith)))
+row-same s (x ∷ r) (y ∷ u) e h = ap₂ (λ (b : Bool) (l : List Bool). b ∷ l) (eqb-same x y s (h 0 (omega arith)))
+    (row-same s r u (omega arith) (λ i p. h (suc i) (omega arith)))
 
 -- r has job j in slot s, u lacks it, and below j they agree
 row-before : (s : ℕ) (r u : List ℕ) (x y : List Bool) (j : ℕ) → length r ≡ length u → j < length r → ((i : ℕ) → i < j → (at r i ≡ s) ↔ (at u i ≡ s))
@@ -75,7 +76,8 @@ row-before : (s : ℕ) (r u : List ℕ) (x y : List Bool) (j : ℕ) → length r
 unfolding slotRow
 row-before s [] u x y j e l h p q t = absurd (omega arith)
 row-before s (a ∷ r) [] x y j e l h p q t = absurd (omega arith)
-row-before s (a ∷ r) (b ∷ u) x y zero e l h p q t = lex-head (eqb a s) (eqb b s) (slotRow s r ++ x) (slotRow s u ++ y) (T-eqb a s .1 p) (λ t. q (T-eqb b s .0 t)) t
+row-before s (a ∷ r) (b ∷ u) x y zero e l h p q t = lex-head (eqb a s) (eqb b s) (slotRow s r ++ x) (slotRow s u ++ y) (T-eqb a s .1 p)
+    (λ t. q (T-eqb b s .0 t)) t
 row-before s (a ∷ r) (b ∷ u) x y (suc j) e l h p q t =
     row-before s r u x y j (omega arith) (omega arith) (λ i k. h (suc i) (omega arith)) p q
     (lex-cancel (eqb a s ∷ []) (slotRow s u ++ y) (slotRow s r ++ x) (rw (← (eqb-same a b s (h 0 (omega arith)))) at t))
@@ -83,11 +85,16 @@ row-before s (a ∷ r) (b ∷ u) x y (suc j) e l h p q t =
 -- ---- the slots one after the other
 
 -- where r is preferred to u, the rows of u do not come first
-pub rows-before : (n : ℕ) (r u : List ℕ) → length r ≡ n → length u ≡ n → (p : Preferred n r u) → (k s : ℕ) → s ≤ p .slot → p .slot < s + k → T (lexb (slotRows k s u) (slotRows k s r)) → ⊥
+pub rows-before : (n : ℕ) (r u : List ℕ) → length r ≡ n → length u ≡ n → (p : Preferred n r u) → (k s : ℕ) → s ≤ p .slot → p .slot < s + k
+    → T (lexb (slotRows k s u) (slotRows k s r)) → ⊥
 unfolding slotRows
 rows-before n r u lr lu p zero s a b t = absurd (omega arith)
 rows-before n r u lr lu p (suc k) s a b t = go (ℕ-discrete s (p .slot)) (λ h. rows-before n r u lr lu p k (suc s) h (omega arith)) t
   where
-    go : Dec (s ≡ p .slot) → (suc s ≤ p .slot → T (lexb (slotRows k (suc s) u) (slotRows k (suc s) r)) → ⊥) → T (lexb (slotRow s u ++ slotRows k (suc s) u) (slotRow s r ++ slotRows k (suc s) r)) → ⊥
-    go (yes e) f t = row-before (p .slot) r u (slotRows k (suc (p .slot)) r) (slotRows k (suc (p .slot)) u) (p .job) (omega arith) (omega (arith, p .job-in)) (p .lower) (p .has) (p .lacks) (rw e at t)
-    go (no e) f t = f (omega arith) (lex-cancel (slotRow s u) (slotRows k (suc s) u) (slotRows k (suc s) r) (rw (row-same s r u (lr ∙ sym lu) (λ i h. p .before s i (omega arith) (omega arith))) at t))
+    go : Dec (s ≡ p .slot) → (suc s ≤ p .slot → T (lexb (slotRows k (suc s) u) (slotRows k (suc s) r)) → ⊥)
+        → T (lexb (slotRow s u ++ slotRows k (suc s) u) (slotRow s r ++ slotRows k (suc s) r)) → ⊥
+    go (yes e) f t = row-before (p .slot) r u (slotRows k (suc (p .slot)) r) (slotRows k (suc (p .slot)) u) (p .job) (omega arith) (omega (arith, p .job-in))
+        (p .lower) (p .has) (p .lacks) (rw e at t)
+    go (no e) f t = f (omega arith)
+        (lex-cancel (slotRow s u) (slotRows k (suc s) u) (slotRows k (suc s) r)
+        (rw (row-same s r u (lr ∙ sym lu) (λ i h. p .before s i (omega arith) (omega arith))) at t))

@@ -96,7 +96,8 @@ module _ (f : JobFile) (ok : Readable f) where
         let w = width (length (f .jobs)) (f .needs) (f .limit) in
         asked-12 free ∙ ask-yes (leb w maxWidth) 12 _ (T-leb w maxWidth .1 narrow)
 
-    found : (o : Option (List ℕ)) (x : Answer Table) → tabled f o ≡ x → best (length (f .jobs)) (runsb (length (f .jobs)) (f .needs) (mostBoards f)) (f .limit) ≡ o → planTable f ≡ x
+    found : (o : Option (List ℕ)) (x : Answer Table) → tabled f o ≡ x → best (length (f .jobs)) (runsb (length (f .jobs)) (f .needs) (mostBoards f)) (f .limit)
+        ≡ o → planTable f ≡ x
     found o x e q = asked-13 ∙ ap (tabled f) q ∙ e
 
     -- the list found is the shortest, and of those the preferred
@@ -107,9 +108,13 @@ module _ (f : JobFile) (ok : Readable f) where
     -- demand 3: 13 exactly where no start list that satisfies P, with no more jobs in any slot than the file has boards, fits the limit
     pub refused-13 : (planTable f ≡ refused 13) ↔ ((t : List ℕ) → Satisfies (length (f .jobs)) (f .needs) (mostBoards f) (f .limit) t → ⊥)
     unfolding tabled
-    refused-13 = (λ e. none-is .0 (is-none (best (length (f .jobs)) (runsb (length (f .jobs)) (f .needs) (mostBoards f)) (f .limit)) (sym asked-13 ∙ e)), λ h. found none (refused 13) refl (none-is .1 h))
+    refused-13 = (
+      λ e. none-is .0 (is-none (best (length (f .jobs)) (runsb (length (f .jobs)) (f .needs) (mostBoards f)) (f .limit)) (sym asked-13 ∙ e)),
+      λ h. found none (refused 13) refl (none-is .1 h),
+    )
       where
-        none-is : (best (length (f .jobs)) (runsb (length (f .jobs)) (f .needs) (mostBoards f)) (f .limit) ≡ none) ↔ ((t : List ℕ) → Satisfies (length (f .jobs)) (f .needs) (mostBoards f) (f .limit) t → ⊥)
+        none-is : (best (length (f .jobs)) (runsb (length (f .jobs)) (f .needs) (mostBoards f)) (f .limit) ≡ none)
+            ↔ ((t : List ℕ) → Satisfies (length (f .jobs)) (f .needs) (mostBoards f) (f .limit) t → ⊥)
         none-is = best-none (length (f .jobs)) (f .needs) (mostBoards f) (f .limit) (ok .distinct) (needs-in f ok) (ok .limit-in .0)
 
         is-none : (o : Option (List ℕ)) → tabled f o ≡ refused 13 → o ≡ none
@@ -117,7 +122,8 @@ module _ (f : JobFile) (ok : Readable f) where
         is-none (some t) e = absurd (let z : _≡_ {A = ℕ} 0 1 = cc in omega arith)
 
     -- a table exactly where one does
-    pub written-where : (u : List ℕ) → Satisfies (length (f .jobs)) (f .needs) (mostBoards f) (f .limit) u → (t : List ℕ) × Shortest (length (f .jobs)) (f .needs) (mostBoards f) (f .limit) t × (planTable f ≡ got (tableOf f t))
+    pub written-where : (u : List ℕ) → Satisfies (length (f .jobs)) (f .needs) (mostBoards f) (f .limit) u → (t : List ℕ)
+        × Shortest (length (f .jobs)) (f .needs) (mostBoards f) (f .limit) t × (planTable f ≡ got (tableOf f t))
     unfolding tabled
     written-where u s =
         let w = best-some (length (f .jobs)) (f .needs) (mostBoards f) (f .limit) (ok .distinct) (needs-in f ok) (ok .limit-in .0) u s in
@@ -128,7 +134,8 @@ module _ (f : JobFile) (ok : Readable f) where
     unfolding tabled
     written-is T e = go (best (length (f .jobs)) (runsb (length (f .jobs)) (f .needs) (mostBoards f)) (f .limit)) refl (sym asked-13 ∙ e)
       where
-        go : (o : Option (List ℕ)) → best (length (f .jobs)) (runsb (length (f .jobs)) (f .needs) (mostBoards f)) (f .limit) ≡ o → tabled f o ≡ got T → (t : List ℕ) × Shortest (length (f .jobs)) (f .needs) (mostBoards f) (f .limit) t × (T ≡ tableOf f t)
+        go : (o : Option (List ℕ)) → best (length (f .jobs)) (runsb (length (f .jobs)) (f .needs) (mostBoards f)) (f .limit) ≡ o → tabled f o ≡ got T
+            → (t : List ℕ) × Shortest (length (f .jobs)) (f .needs) (mostBoards f) (f .limit) t × (T ≡ tableOf f t)
         go none q h = absurd (let z : _≡_ {A = ℕ} 0 1 = cc in omega arith)
         go (some t) q h = (t, found-shortest t q, let z : tableOf f t ≡ T = cc in sym z)
 

@@ -71,7 +71,8 @@ module _ (n : ℕ) where
         job = p .job;
         job-in = p .job-in;
         before = λ s i l k. both s i k (inl l) (sooner-trans s i (p .slot) (p .job) (q .slot) (q .job) (inl l) h);
-        lower = λ i l. both (p .slot) i (omega (arith, p .job-in)) (inr (refl, l)) (sooner-trans (p .slot) i (p .slot) (p .job) (q .slot) (q .job) (inr (refl, l)) h);
+        lower = λ i l. both (p .slot) i (omega (arith, p .job-in)) (inr (refl, l))
+            (sooner-trans (p .slot) i (p .slot) (p .job) (q .slot) (q .job) (inr (refl, l)) h);
         has = p .has;
         lacks = λ e. p .lacks (agree-sooner b c q (p .slot) (p .job) (p .job-in) h .1 e);
       }
@@ -80,7 +81,8 @@ module _ (n : ℕ) where
         job = q .job;
         job-in = q .job-in;
         before = λ s i l k. both s i k (sooner-trans s i (q .slot) (q .job) (p .slot) (p .job) (inl l) h) (inl l);
-        lower = λ i l. both (q .slot) i (omega (arith, q .job-in)) (sooner-trans (q .slot) i (q .slot) (q .job) (p .slot) (p .job) (inr (refl, l)) h) (inr (refl, l));
+        lower = λ i l. both (q .slot) i (omega (arith, q .job-in)) (sooner-trans (q .slot) i (q .slot) (q .job) (p .slot) (p .job) (inr (refl, l)) h)
+            (inr (refl, l));
         has = agree-sooner a b p (q .slot) (q .job) (q .job-in) h .1 (q .has);
         lacks = q .lacks;
       }
@@ -113,7 +115,8 @@ module _ (r u : List ℕ) where
       next f e i (yes q) h = rw q e
       next f e i (no q) h = f i (omega arith)
 
-      go : Agree s k r u ⊎ (Lowest s k r u ⊎ Lowest s k u r) → Dec (at r k ≡ s) → Dec (at u k ≡ s) → Agree s (suc k) r u ⊎ (Lowest s (suc k) r u ⊎ Lowest s (suc k) u r)
+      go : Agree s k r u ⊎ (Lowest s k r u ⊎ Lowest s k u r) → Dec (at r k ≡ s) → Dec (at u k ≡ s) → Agree s (suc k) r u
+          ⊎ (Lowest s (suc k) r u ⊎ Lowest s (suc k) u r)
       go (inl f) (yes a) (yes b) = inl (λ i. next f (λ _. b, λ _. a) i (ℕ-discrete i k))
       go (inl f) (yes a) (no b) = inr (inl record { job = k; job-in = omega arith; lower = f; has = a; lacks = b })
       go (inl f) (no a) (yes b) = inr (inr record { job = k; job-in = omega arith; lower = λ i h. (f i h .1, f i h .0); has = b; lacks = a })
@@ -133,7 +136,8 @@ module _ (r u : List ℕ) where
       next f g s (yes q) h = rw q g
       next f g s (no q) h = f s (omega arith)
 
-      go : ((s : ℕ) → s < k → Agree s n r u) ⊎ (Preferred n r u ⊎ Preferred n u r) → Agree k n r u ⊎ (Lowest k n r u ⊎ Lowest k n u r) → ((s : ℕ) → s < suc k → Agree s n r u) ⊎ (Preferred n r u ⊎ Preferred n u r)
+      go : ((s : ℕ) → s < k → Agree s n r u) ⊎ (Preferred n r u ⊎ Preferred n u r) → Agree k n r u ⊎ (Lowest k n r u ⊎ Lowest k n u r)
+          → ((s : ℕ) → s < suc k → Agree s n r u) ⊎ (Preferred n r u ⊎ Preferred n u r)
       go (inl f) (inl g) = inl (λ s. next f g s (ℕ-discrete s k))
       go (inl f) (inr (inl w)) = inr (inl (decides r u f w))
       go (inl f) (inr (inr w)) = inr (inr (decides u r (λ s h i l. (f s h i l .1, f s h i l .0)) w))

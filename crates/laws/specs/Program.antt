@@ -149,8 +149,10 @@ module _ (n : ℕ) (needs : List Need) (C : ℕ) (t x : List ℕ) (P : ProgramP 
   program-kept needs-in = (
     record {
       later = λ g k a. omega (arith, number (g, k) a .room);
-      give-one = λ g j k a b p q. ap (λ (d : Need). d .1) (one-tight (givenBy g) (P .line3 g (needs-in g j a .0)) (g, j) (g, k) a b (simp tests refl) (simp tests refl) p q);
-      take-one = λ i j k a b p q. ap (λ (d : Need). d .0) (one-tight (takenBy k) (P .line4 k (needs-in i k a .1)) (i, k) (j, k) a b (simp tests refl) (simp tests refl) (sym p) (sym q));
+      give-one = λ g j k a b p q. ap (λ (d : Need). d .1)
+          (one-tight (givenBy g) (P .line3 g (needs-in g j a .0)) (g, j) (g, k) a b (simp tests refl) (simp tests refl) p q);
+      take-one = λ i j k a b p q. ap (λ (d : Need). d .0)
+          (one-tight (takenBy k) (P .line4 k (needs-in i k a .1)) (i, k) (j, k) a b (simp tests refl) (simp tests refl) (sym p) (sym q));
     },
     record { len = P .starts; below = λ i h. omega (arith, P .line2 i h) },
   )
@@ -179,7 +181,8 @@ module _ (p : Need → Bool) (f : Need → ℕ) where
   none-free [] h = omega arith
   none-free (d ∷ ds) h = go (p d) (h d (List·Memᴰ·head refl)) (none-free ds (λ e m. h e (List·Memᴰ·tail m)))
     where
-      go : (b : Bool) → (T b → 1 ≤ f d) → tally p ds ≤ total p ds (map f ds) → choose b (suc (tally p ds)) (tally p ds) ≤ choose b (f d + total p ds (map f ds)) (total p ds (map f ds))
+      go : (b : Bool) → (T b → 1 ≤ f d) → tally p ds ≤ total p ds (map f ds)
+          → choose b (suc (tally p ds)) (tally p ds) ≤ choose b (f d + total p ds (map f ds)) (total p ds (map f ds))
       go true l r = omega (arith, l tt)
       go false l r = r
 
@@ -201,7 +204,8 @@ module _ (p : Need → Bool) (f : Need → ℕ) where
       go false q c r = r
 
 -- the delays of document 01 make inequalities (1) to (4) true
-pub delays-satisfy : (n : ℕ) (needs : List Need) (C : ℕ) (t : List ℕ) → Distinct needs → Kept (Gives needs) (at t) × Fits n C t → ProgramP n needs C t (map (delay t) needs)
+pub delays-satisfy : (n : ℕ) (needs : List Need) (C : ℕ) (t : List ℕ) → Distinct needs → Kept (Gives needs) (at t) × Fits n C t
+    → ProgramP n needs C t (map (delay t) needs)
 unfolding givenBy takenBy
 delays-satisfy n needs C t u (kept, fits) = record {
   starts = fits .len;
@@ -209,8 +213,10 @@ delays-satisfy n needs C t u (kept, fits) = record {
   zero-one = λ e h. omega (arith, at-map (delay t) needs e h, delay-is t (nth needs e) .0);
   line1 = λ e h. rw (at-map (delay t) needs e h) (delay-is t (nth needs e) .1 (kept .later (nth needs e .0) (nth needs e .1) (nth-mem needs e (0, 0) h)));
   line2 = λ i h. omega (arith, fits .below i h);
-  line3 = λ i h. one-free (givenBy i) (delay t) needs u (λ d e a b p q y z. given d e a b (T-eqb (d .0) i .0 p ∙ sym (T-eqb (e .0) i .0 q)) (delay-is t d .2 y) (delay-is t e .2 z));
-  line4 = λ i h. one-free (takenBy i) (delay t) needs u (λ d e a b p q y z. taken d e a b (T-eqb (d .1) i .0 p ∙ sym (T-eqb (e .1) i .0 q)) (delay-is t d .2 y) (delay-is t e .2 z));
+  line3 = λ i h. one-free (givenBy i) (delay t) needs u
+      (λ d e a b p q y z. given d e a b (T-eqb (d .0) i .0 p ∙ sym (T-eqb (e .0) i .0 q)) (delay-is t d .2 y) (delay-is t e .2 z));
+  line4 = λ i h. one-free (takenBy i) (delay t) needs u
+      (λ d e a b p q y z. taken d e a b (T-eqb (d .1) i .0 p ∙ sym (T-eqb (e .1) i .0 q)) (delay-is t d .2 y) (delay-is t e .2 z));
 }
   where
     given : (d e : Need) → List·Memᴰ d needs → List·Memᴰ e needs → d .0 ≡ e .0 → at t (d .0) + 1 ≡ at t (d .1) → at t (e .0) + 1 ≡ at t (e .1) → d ≡ e
@@ -220,5 +226,6 @@ delays-satisfy n needs C t u (kept, fits) = record {
     taken (i, k) (j, l) a b e y z = λ c. (kept .take-one i j k a (rw e b) y (rw e z) c, e c)
 
 -- P asks of the starts just the three sentences and the makespan
-pub program-is : (n : ℕ) (needs : List Need) (C : ℕ) (t : List ℕ) → Distinct needs → NeedsIn n needs → SatisfiesP n needs C t ↔ (Kept (Gives needs) (at t) × Fits n C t)
+pub program-is : (n : ℕ) (needs : List Need) (C : ℕ) (t : List ℕ) → Distinct needs → NeedsIn n needs → SatisfiesP n needs C t
+    ↔ (Kept (Gives needs) (at t) × Fits n C t)
 program-is n needs C t u needs-in = (λ s. program-kept n needs C t (s .0) (s .1) needs-in, λ h. (map (delay t) needs, delays-satisfy n needs C t u h))

@@ -86,7 +86,8 @@ module _ (r : ℕ → ℕ) (needs : List Need) (i m : ℕ) where
 
   untied-two : ¬ T (untied r needs i m) → Tie
   unfolding untied all₂
-  untied-two h = let v = not-all (λ d. all (λ e. test d e) needs) needs h in let w = not-all (λ e. test (v .0) e) needs (v .2) in two (v .0) (w .0) (v .1) (w .1) (w .2)
+  untied-two h = let v = not-all (λ d. all (λ e. test d e) needs) needs h in let w = not-all (λ e. test (v .0) e) needs (v .2) in
+      two (v .0) (w .0) (v .1) (w .1) (w .2)
     where
       test : Need → Need → Bool
       test d e = imp (eqb (d .1) i) (imp (eqb (e .1) i) (imp (eqb (suc (r (d .0))) m) (imp (eqb (suc (r (e .0))) m) (eqb (d .0) (e .0)))))
@@ -122,7 +123,8 @@ release-case needs r i = go (latest-at r i needs)
     go (inr (j, a, e)) = by-choice (Case needs r i) (untied r needs i m)
         (λ t. single j a (λ g b q. below t g b q (ℕ-discrete (r g) (r j))) (omega arith))
         (λ h. let w = untied-two r needs i m h in
-        double (w .j) (w .k) (w .j-gives) (w .k-gives) (w .apart) (omega (arith, w .j-has, w .k-has)) (λ g b. omega (arith, w .j-has, latest-ge r i needs g b)) (omega (arith, w .j-has)))
+        double (w .j) (w .k) (w .j-gives) (w .k-gives) (w .apart) (omega (arith, w .j-has, w .k-has)) (λ g b. omega (arith, w .j-has, latest-ge r i needs g b))
+        (omega (arith, w .j-has)))
       where
         below : T (untied r needs i m) → (g : ℕ) → Gives needs g i → g ≢ j → Dec (r g ≡ r j) → r g < r j
         below t g b q (yes p) = absurd (q (untied-one r needs i m t g j b a (omega arith) (omega arith)))
@@ -163,7 +165,10 @@ value-case needs r i v w f (double j k a b d q l e) = f .tied j k a b d q l ∙ 
 
 -- formula (1) has one value at each job, the computed one
 pub value1-is : (needs : List Need) (r : ℕ → ℕ) (i v : ℕ) → Value1 needs r i v ↔ (v ≡ releaseBy r needs i)
-value1-is needs r i v = (λ f. value-case needs r i v (releaseBy r needs i) f (release-case needs r i), λ e. rw e (case-value needs r i (releaseBy r needs i) (release-case needs r i)))
+value1-is needs r i v = (
+  λ f. value-case needs r i v (releaseBy r needs i) f (release-case needs r i),
+  λ e. rw e (case-value needs r i (releaseBy r needs i) (release-case needs r i)),
+)
 
 -- so every way to find the case computes the same
 pub case-release : (needs : List Need) (r : ℕ → ℕ) (i v : ℕ) → Case needs r i v → v ≡ releaseBy r needs i
@@ -174,7 +179,8 @@ case-release needs r i v c = value1-is needs r i v .0 (case-value needs r i v c)
 case-same : (needs : List Need) (r q : ℕ → ℕ) (i v : ℕ) → ((g : ℕ) → Gives needs g i → r g ≡ q g) → Case needs r i v → Case needs q i v
 case-same needs r q i v h (nobody k e) = nobody k e
 case-same needs r q i v h (single j a l e) = single j a (λ g b d. omega (arith, l g b d, h g b, h j a)) (omega (arith, h j a))
-case-same needs r q i v h (double j k a b d p l e) = double j k a b d (omega (arith, h j a, h k b)) (λ g c. omega (arith, l g c, h g c, h j a)) (omega (arith, h j a))
+case-same needs r q i v h (double j k a b d p l e) = double j k a b d (omega (arith, h j a, h k b)) (λ g c. omega (arith, l g c, h g c, h j a))
+    (omega (arith, h j a))
 
 release-same : (needs : List Need) (r q : ℕ → ℕ) (i : ℕ) → ((g : ℕ) → Gives needs g i → r g ≡ q g) → releaseBy r needs i ≡ releaseBy q needs i
 release-same needs r q i h = case-release needs q i (releaseBy r needs i) (case-same needs r q i (releaseBy r needs i) h (release-case needs r i))
@@ -197,12 +203,14 @@ module _ (n : ℕ) (needs : List Need) (needs-in : NeedsIn n needs) where
   stable zero i h t = absurd (none-marked n needs i t)
   stable (suc f) i h t =
       release-step n f needs i h
-      ∙ release-same needs (at (releases n needs f)) (at (releases n needs (suc f))) i (λ g m. stable f g (needs-in g i m .0) (giver-first n needs needs-in f g i m t))
+      ∙ release-same needs (at (releases n needs f)) (at (releases n needs (suc f))) i
+      (λ g m. stable f g (needs-in g i m .0) (giver-first n needs needs-in f g i m t))
       ∙ sym (release-step n (suc f) needs i h)
 
   -- the releases satisfy formula (1)
   pub release-formula : ¬ (Circle needs) → (i : ℕ) → i < n → Formula1 needs (release n needs) i
-  release-formula free i h = value1-is needs (release n needs) i (release n needs i) .1 (stable n i h (free-marked n needs needs-in free i h) ∙ release-step n n needs i h)
+  release-formula free i h = value1-is needs (release n needs) i (release n needs i) .1 (stable n i h (free-marked n needs needs-in free i h)
+      ∙ release-step n n needs i h)
 
   -- so each release is the value of a case
   pub release-at : ¬ (Circle needs) → (i : ℕ) → i < n → Case needs (release n needs) i (release n needs i)
@@ -313,5 +321,6 @@ module _ (needs : List Need) (τ : ℕ → ℕ) (kept : Kept (Gives needs) τ) w
   release-le n (suc f) i = go (decLt i n) (release-le n f)
     where
       go : Dec (i < n) → ((g : ℕ) → at (releases n needs f) g ≤ τ g) → at (releases n needs (suc f)) i ≤ τ i
-      go (yes h) r = rw (release-step n f needs i h) (case-le (at (releases n needs f)) i (releaseBy (at (releases n needs f)) needs i) r (release-case needs (at (releases n needs f)) i))
+      go (yes h) r = rw (release-step n f needs i h)
+          (case-le (at (releases n needs f)) i (releaseBy (at (releases n needs f)) needs i) r (release-case needs (at (releases n needs f)) i))
       go (no h) r = omega (arith, List·getD-eq-default (releases n needs (suc f)) 0 {n = i} (omega (arith, length-releases n (suc f) needs)))

@@ -1,6 +1,6 @@
 -- A need given twice (document 02, request 6): "the file is planned as if the later field were a comment", and no call gives 9. Assumes nothing.
 use mathlib.Core.Path.{_≡_, sym, ap, ap₂, subst, _∙_}
-use mathlib.Core.Logic.{_≢_, inl, ⊎-elim}
+use mathlib.Core.Logic.{_≢_, ⊎-elim}
 use mathlib.Core.Bool.{not, _&&_}
 use mathlib.Core.List.{List, [], _∷_, _++_}
 use Prim.Native.Nat.{ℕ, suc, _+_, _-_, _≤_, _<_}
@@ -18,10 +18,11 @@ use Rattle.rules.specs.JobFile.{withNeed, jobOf, isNeed, giverOf, takerOf, need
 use Rattle.rules.specs.Answers.{plan, check}
 use Rattle.rules.specs.Implied.{impliedIn, Listing, listed, listImplied}
 use Rattle.laws.specs.Tests.{T-leb, T-and, tests, by-test, choose-no}
-use Rattle.laws.specs.Fields.{got-same, ask-got, after-got, after-same, ask-yes, whole-is, after-head, overFields-keeps}
+use Rattle.laws.specs.Fields.{ask-got, after-got, after-same, ask-yes, whole-is, after-head, overFields-keeps}
 use Rattle.laws.specs.Needs.{insert-known, insert-keeps, insert-there}
 use Rattle.laws.specs.JobFile.{need-known, need-late, need-content, add-need, place-same, added}
-use Rattle.laws.specs.FileParts.{FieldsTo, Fields, readFrom, readFrom-step, fields-read, read-through, fields-cut, value-front, readFrom-parts, askField, need-asked}
+use Rattle.laws.specs.FileParts.{FieldsTo, Fields, readFrom, readFrom-step, fields-read, read-through, fields-cut, value-front, readFrom-parts, askField}
+use Rattle.laws.specs.FileParts.{need-asked}
 use Rattle.laws.specs.FileParts.{readFrom-field}
 use Rattle.laws.specs.FieldsBut.{head-length, field-is}
 use Rattle.laws.specs.Refusals.{number-in, implied-numbers, CheckNumber, check-number}
@@ -87,7 +88,8 @@ need-taken : (tag : ℕ) (v : List ℕ) → T (isNeed tag) → (f e : JobFile) �
 unfolding withNeed
 need-taken tag v need f e q =
     let w = need-asked f e tag v need q in
-    subst (Taken (giverOf tag v) (takerOf tag v)) (w .reads) record { late = omega (arith, w .late); both-jobs = w .both-jobs; there = insert-there (f .needs) (needOf tag v) }
+    subst (Taken (giverOf tag v) (takerOf tag v)) (w .reads) record
+    { late = omega (arith, w .late); both-jobs = w .both-jobs; there = insert-there (f .needs) (needOf tag v) }
 
 -- and stays so
 still-taken : (g k : ℕ) (f e : JobFile) → Later f e → Taken g k f → Taken g k e
@@ -128,7 +130,8 @@ need-read bs a before inside need f e r =
 -- whole fields xs: where they are read, the need that the tag and the value v say is among what they say; behind them that need again or a comment as
 -- long, and any bytes
 module _ (xs zs : List ℕ) (tag : ℕ) (v w : List ℕ) (fields : Fields xs) (need : T (isNeed tag)) (long : T (lengthOk tag (length v)))
-    (taken : (f : JobFile) → readFrom xs 0 noFields ≡ got f → Taken (giverOf tag v) (takerOf tag v) f) (short : length v < 65536) (as-long : length w ≡ length v) where
+    (taken : (f : JobFile) → readFrom xs 0 noFields ≡ got f → Taken (giverOf tag v) (takerOf tag v) f) (short : length v < 65536) (as-long : length w
+    ≡ length v) where
   -- both fields say the same
   behind-same : (f : JobFile) → Taken (giverOf tag v) (takerOf tag v) f → readFrom (field tag v ++ zs) 0 f ≡ readFrom (comment w ++ zs) 0 f
   behind-same f t =
@@ -191,14 +194,16 @@ module _ (bs : List ℕ) (bytes : Bytes bs) (a b : ℕ) (first : NeedField bs a)
   taken : (f : JobFile) → readFrom xs 0 noFields ≡ got f → Taken (giverAt bs b) (takerAt bs b) f
   taken f e =
       let before = fields-cut xs (drop b bs) a 0 (rw (take-append-drop b bs) (first .before)) (omega (arith, size, later)) in
-      let tag : at xs a ≡ at bs a = sym (List·getD-append xs (drop b bs) 0 a (omega (arith, size, later))) ∙ ap (λ (l : List ℕ). at l a) (take-append-drop b bs) in
+      let tag : at xs a ≡ at bs a = sym (List·getD-append xs (drop b bs) 0 a (omega (arith, size, later)))
+      ∙ ap (λ (l : List ℕ). at l a) (take-append-drop b bs) in
       let r = need-read xs a before (omega (arith, size, later)) (rw tag (first .tag-is)) noFields f e in
       let v : value xs a ≡ value bs a = sym (value-front xs (drop b bs) a (r .0)) ∙ ap (λ (l : List ℕ). value l a) (take-append-drop b bs) in
       rw (giver, taker) (rw (tag, v) at (r .1))
 
   -- the file says the same, or is refused with the same number
   pub repeat-read : readFile bs ≡ readFile commented
-  repeat-read = ap readFile file-is ∙ parts-same xs zs (at bs b) (value bs b) w fields (again .tag-is) (again .long) taken (head-length bs bytes b (again .is-whole) .0) as-long
+  repeat-read = ap readFile file-is
+      ∙ parts-same xs zs (at bs b) (value bs b) w fields (again .tag-is) (again .long) taken (head-length bs bytes b (again .is-whole) .0) as-long
 
   -- and gets the same answers, byte for byte
   pub repeat-same : SameAnswers bs commented

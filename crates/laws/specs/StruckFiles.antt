@@ -2,7 +2,7 @@
 -- planner and check stay (document 02, request 5). Assumes nothing.
 use mathlib.Core.Path.{_≡_, refl, sym, ap, fun-ext, subst, _∙_}
 use mathlib.Core.Logic.{_↔_}
-use mathlib.Core.Bool.{Bool, not, _&&_}
+use mathlib.Core.Bool.{Bool, not}
 use mathlib.Core.List.{List, [], _∷_, _++_, append-nil}
 use mathlib.Core.Option.{Option, none, some}
 use Prim.Native.Nat.{ℕ, suc, _-_, _<_, min}
@@ -11,11 +11,11 @@ use lib.ListN.{length}
 use lib.Dec.{T, leb, eqb}
 use lib.IntN.{pos, _-ℤ_}
 use Rattle.rules.specs.Sizes.{maxWidth}
-use Rattle.rules.specs.Basics.{choose, at, filter}
+use Rattle.rules.specs.Basics.{at, filter}
 use Rattle.rules.specs.Numbers.{Bytes}
 use Rattle.rules.specs.Fields.{Answer, got, ask, after, value}
 use Rattle.rules.specs.Needs.{Need, Gives, givesb, insertNeed, Circle, circleFree}
-use Rattle.rules.specs.JobFile.{JobFile, mostBoards, knownTag, inPlace, lengthOk, contentOk, counted, withLimit, withSockets, withJob, withNeed, jobOf, isNeed, needOf}
+use Rattle.rules.specs.JobFile.{JobFile, mostBoards, counted, withLimit, withSockets, withJob, withNeed, jobOf, isNeed, needOf}
 use Rattle.rules.specs.JobFile.{addNeed, addSockets, addField, noFields, complete, readFile}
 use Rattle.rules.specs.Windows.{release, tail, width}
 use Rattle.rules.specs.Preference.{best}
@@ -23,7 +23,7 @@ use Rattle.rules.specs.Boards.{runsb}
 use Rattle.rules.specs.Table.{Table, starts, boardsOf, decode}
 use Rattle.rules.specs.Answers.{tableOf, tabled, planTable, plan, check}
 use Rattle.rules.specs.Implied.{impliedNeeds, impliedIn, struck, needAt, strike}
-use Rattle.laws.specs.Tests.{T-and, T-not, T-eqb, tests, by-test, bool-ext, by-choice, choose-yes, choose-no}
+use Rattle.laws.specs.Tests.{T-and, T-not, tests, by-test, bool-ext, by-choice, choose-yes, choose-no}
 use Rattle.laws.specs.Lists.{filter-mem, filter-mem⁻¹, filter-append}
 use Rattle.laws.specs.Fields.{got-same, ask-got, after-got, ask-yes, GotBeside, got-beside, ask-beside, choose-beside}
 use Rattle.laws.specs.JobFile.{Readable, needs-in, place-same, readable}

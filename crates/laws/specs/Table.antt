@@ -45,11 +45,15 @@ field-at pre tag v rest h = record {
     len = omega (arith, length-append pre (tag ∷ low (length v) ∷ high (length v) ∷ (v ++ rest)), length-append v rest)
 
     ends : fieldEnd bs a ≡ a + (3 + length v)
-    ends = rw (getD-append-add pre (tag ∷ low (length v) ∷ high (length v) ∷ (v ++ rest)) 1 0, getD-append-add pre (tag ∷ low (length v) ∷ high (length v) ∷ (v ++ rest)) 2 0) (rw (word-split (length v) h .0) (omega arith))
+    ends = rw (
+      getD-append-add pre (tag ∷ low (length v) ∷ high (length v) ∷ (v ++ rest)) 1 0,
+      getD-append-add pre (tag ∷ low (length v) ∷ high (length v) ∷ (v ++ rest)) 2 0,
+    ) (rw (word-split (length v) h .0) (omega arith))
 
     body : value bs a ≡ v
     body = let e : fieldEnd bs a - (a + 3) ≡ length v = omega (arith, ends) in
-        ap (λ (n : ℕ). take n (drop (a + 3) bs)) e ∙ ap (take (length v)) (drop-append-add pre (tag ∷ low (length v) ∷ high (length v) ∷ (v ++ rest)) 3) ∙ take-append-seam v rest
+        ap (λ (n : ℕ). take n (drop (a + 3) bs)) e ∙ ap (take (length v)) (drop-append-add pre (tag ∷ low (length v) ∷ high (length v) ∷ (v ++ rest)) 3)
+        ∙ take-append-seam v rest
 
 -- ---- what bytes can hold
 
@@ -89,22 +93,26 @@ module _ (bs : List ℕ) where
       → (readRow bs rows (length pre) ≡ got (rows ++ r ∷ [])) × (fieldEnd bs (length pre) ≡ length (pre ++ rowBytes r))
   unfolding readRow rowBytes field
   row-read pre rest r ok e rows = (
-    ask-yes (whole bs (length pre) && (eqb (at bs (length pre)) 17 && nameOk (drop 4 (value bs (length pre))))) 14 _ (simp tests (f .is-whole, (f .tag-is, rw (f .value-is) (ok .name-ok)))) ∙ ap (λ (x : Row). got (rows ++ x ∷ [])) (ap rowOf (f .value-is) ∙ row-of r ok),
+    ask-yes (whole bs (length pre) && (eqb (at bs (length pre)) 17 && nameOk (drop 4 (value bs (length pre))))) 14 _
+        (simp tests (f .is-whole, (f .tag-is, rw (f .value-is) (ok .name-ok)))) ∙ ap (λ (x : Row). got (rows ++ x ∷ [])) (ap rowOf (f .value-is) ∙ row-of r ok),
     omega (arith, f .end-is, length-append pre (field 17 (rowValue r))),
   )
     where
       f : FieldAt bs (length pre) 17 (rowValue r)
-      f = subst (λ (l : List ℕ). FieldAt l (length pre) 17 (rowValue r)) (sym e) (field-at pre 17 (rowValue r) rest (omega (arith, name-length (r .name) (ok .name-ok))))
+      f = subst (λ (l : List ℕ). FieldAt l (length pre) 17 (rowValue r)) (sym e)
+          (field-at pre 17 (rowValue r) rest (omega (arith, name-length (r .name) (ok .name-ok))))
 
   rows-read : (rs : List Row) → RowsOk rs → (pre : List ℕ) → bs ≡ pre ++ rowsBytes rs → (k : ℕ) → length bs - length pre ≤ k → (rows : List Row)
       → overFields (readRow bs) k bs (length pre) rows ≡ got (rows ++ rs)
   unfolding rowsBytes
-  rows-read [] ok pre e k l rows = overFields-end (readRow bs) k bs (length pre) rows (omega (arith, ap length (e ∙ append-nil pre))) ∙ ap got (sym (append-nil rows))
+  rows-read [] ok pre e k l rows = overFields-end (readRow bs) k bs (length pre) rows (omega (arith, ap length (e ∙ append-nil pre)))
+      ∙ ap got (sym (append-nil rows))
   rows-read (r ∷ rs) ok pre e k l rows =
       let w = row-read pre (rowsBytes rs) r (ok .0) e rows in
       let long : length pre < length bs = longer (ap length e) in
       let p = overFields-step (readRow bs) k bs (length pre) rows long l in
-      let next = rows-read rs (ok .1) (pre ++ rowBytes r) (e ∙ sym (append-assoc pre (rowBytes r) (rowsBytes rs))) (p .0) (rw (← (w .1)) (p .1)) (rows ++ r ∷ []) in
+      let next = rows-read rs (ok .1) (pre ++ rowBytes r) (e ∙ sym (append-assoc pre (rowBytes r) (rowsBytes rs))) (p .0) (rw (← (w .1)) (p .1)) (rows ++ r
+      ∷ []) in
       p .2 ∙ joined (p .0) ((rows ++ r ∷ []) ++ rs) (w .0) (w .1) next ∙ ap got (append-assoc rows (r ∷ []) rs)
     where
       longer : length bs ≡ length (pre ++ (rowBytes r ++ rowsBytes rs)) → length pre < length bs
@@ -126,7 +134,8 @@ pub record TableOk (t : Table) : Type 0 where
 -- decoding an encoded table gives back slots, boards, starts, boards of jobs, levels and names
 pub decode-encode : (few : ℕ → Bool) (t : Table) → TableOk t → T (few (length (t .rows))) → decode few (encode t) ≡ got t
 unfolding decode encode field low high
-decode-encode few t ok h = ask-yes (headOk bs) 14 _ head-ok ∙ ap (λ (x : Answer (List Row)). after x finish) (rows-read bs (t .rows) (ok .rows-ok) (take 6 bs) refl (length bs) (omega arith) []) ∙ last
+decode-encode few t ok h = ask-yes (headOk bs) 14 _ head-ok
+    ∙ ap (λ (x : Answer (List Row)). after x finish) (rows-read bs (t .rows) (ok .rows-ok) (take 6 bs) refl (length bs) (omega arith) []) ∙ last
   where
     bs : List ℕ
     bs = 16 ∷ 3 ∷ 0 ∷ 1 ∷ t .slots ∷ t .boards ∷ rowsBytes (t .rows)

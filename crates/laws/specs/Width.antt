@@ -40,7 +40,8 @@ holdsb-is r d s i = (
 
 -- where p is narrower than q, and C at most L, no slot below C has more than the fullest below L
 most-mono : (p q : ℕ → ℕ → Bool) (n C L : ℕ) → C ≤ L → ((s i : ℕ) → i < n → T (p s i) → T (q s i)) → most (λ s. count (p s) n) C ≤ most (λ s. count (q s) n) L
-most-mono p q n C L l f = most-le (λ s. count (p s) n) C (most (λ s. count (q s) n) L) (λ s h. omega (arith, count-le (p s) (q s) n (f s), most-ge (λ s. count (q s) n) L s (omega arith)))
+most-mono p q n C L l f = most-le (λ s. count (p s) n) C (most (λ s. count (q s) n) L)
+    (λ s h. omega (arith, count-le (p s) (q s) n (f s), most-ge (λ s. count (q s) n) L s (omega arith)))
 
 -- so tests that say the same give the same fullest slot
 most-same : (p q : ℕ → ℕ → Bool) (n L : ℕ) → ((s i : ℕ) → i < n → T (p s i) ↔ T (q s i)) → most (λ s. count (p s) n) L ≡ most (λ s. count (q s) n) L
@@ -52,8 +53,12 @@ pub windows-width : (n : ℕ) (needs : List Need) (L : ℕ) (r : ℕ → ℕ) (d
     → widthOf n r d L ≡ most (λ s. count (window (release n needs) (tail n needs) L s) n) L
 unfolding widthOf
 windows-width n needs L r d hr hd = most-same (holdsb r d) (window (release n needs) (tail n needs) L) n L (λ s i h. (
-  λ t. window-is (release n needs) (tail n needs) L s i .1 (holds-is L (release n needs i) (tail n needs i) s .0 (rw (← (hr i h), ← (hd i h)) (holdsb-is r d s i .0 t))),
-  λ t. holdsb-is r d s i .1 (rw (hr i h, hd i h) (holds-is L (release n needs i) (tail n needs i) s .1 (window-is (release n needs) (tail n needs) L s i .0 t))),
+  λ t. window-is (release n needs) (tail n needs) L s i .1
+      (holds-is L (release n needs i) (tail n needs i) s .0 (rw (← (hr i h), ← (hd i h)) (holdsb-is r d s i .0 t))),
+  λ t. holdsb-is r d s i .1 (rw (
+    hr i h,
+    hd i h,
+  ) (holds-is L (release n needs i) (tail n needs i) s .1 (window-is (release n needs) (tail n needs) L s i .0 t))),
 ))
 
 -- the width over the natural numbers

@@ -3,49 +3,58 @@ use mathlib.Core.List.{List}
 use mathlib.Core.Path.{_≡_}
 use Prim.Native.Nat.{ℕ, _+_, _*_, _<_}
 use Rattle.rules.specs.Basics.{at}
+use Rattle.rules.specs.Sizes.{maxLimit, maxWidth}
 use Rattle.jobset.specs.Sets.{setAt}
 use Rattle.threes.specs.Threes.{entry}
 use Rattle.places.specs.Tables.{Tables}
+
+-- the sets of places: each is a byte
+abbrev pub placeSets : ℕ
+placeSets = 256
 
 -- where each table begins, as the constants of the code say
 abbrev pub heldAt : ℕ
 heldAt = 0
 
 abbrev pub endsAt : ℕ
-endsAt = 64
+endsAt = heldAt + maxLimit
 
 abbrev pub dueAt : ℕ
-dueAt = 129
+dueAt = endsAt + (maxLimit + 1)
 
 abbrev pub marksAt : ℕ
-marksAt = 194
+marksAt = dueAt + (maxLimit + 1)
 
 abbrev pub prevAt : ℕ
-prevAt = 259
+prevAt = marksAt + (maxLimit + 1)
 
 abbrev pub whoAt : ℕ
-whoAt = 771
+whoAt = prevAt + maxWidth * maxLimit
 
 abbrev pub slotsAt : ℕ
-slotsAt = 1283
+slotsAt = whoAt + maxWidth * maxLimit
 
 abbrev pub capAt : ℕ
-capAt = 1284
+capAt = slotsAt + 1
 
 abbrev pub threeAt : ℕ
-threeAt = 1285
+threeAt = capAt + 1
 
 -- how many numbers they are
 abbrev pub tableWords : ℕ
-tableWords = 1541
+tableWords = threeAt + placeSets
+
+-- no row of marks begins behind this byte, so that a number of two bytes says where the next one begins
+abbrev pub marksRoom : ℕ
+marksRoom = 60000
 
 -- the tables of an array
 unfoldable pub tablesIn : List ℕ → Tables
 tablesIn words = record {
   held = λ s. setAt words (heldAt + s);
   ends = λ s. setAt words (endsAt + s);
-  prev = λ s p. setAt words (prevAt + 8 * s + p);
-  who = λ s p. at words (whoAt + 8 * s + p);
+  prev = λ s p. setAt words (prevAt + maxWidth * s + p);
+  who = λ s p. at words (whoAt + maxWidth * s + p);
   due = λ s. setAt words (dueAt + s);
 }
 
@@ -55,4 +64,4 @@ marksIn words s = 8 * at words (marksAt + s)
 
 -- the base-three number of each byte stands in the array
 abbrev pub ThreesIn : List ℕ → Type 0
-ThreesIn words = (b : ℕ) → b < 256 → at words (threeAt + b) ≡ entry b
+ThreesIn words = (b : ℕ) → b < placeSets → at words (threeAt + b) ≡ entry b

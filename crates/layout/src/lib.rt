@@ -18,6 +18,7 @@ use sizes::PLACE_SETS;
 use sizes::PLACES;
 ghost use mathlib.Core.Path.{_≡_};
 ghost use Prim.Native.Nat.{_<_};
+ghost use Rattle.rules.specs.Sizes.{maxLimit, maxWidth};
 ghost use Rattle.jobset.specs.Sets.{setAt};
 ghost use Rattle.layout.specs.Layout.{tableWords, tablesIn};
 
@@ -53,7 +54,7 @@ pub fn set_at(tables: &[u16; TABLES], i: usize) -> Set
 
 // The job at a place of a slot.
 pub fn job_at(tables: &[u16; TABLES], slot: usize, p: usize) -> usize
-    requires { ⌜ (slot < 64) × (p < 8) ⌝ }
+    requires { ⌜ (slot < maxLimit) × (p < maxWidth) ⌝ }
     ensures { λ r. ⌜ r ≡ tablesIn (now (tables .entry)) .who slot p ⌝ }
 {
     index(tables[WHO + PLACES * slot + p])

@@ -5,6 +5,7 @@ use mathlib.Core.List.{List}
 use mathlib.Core.Option.{none, some}
 use Prim.Native.Nat.{ℕ, _+_, _*_, _≤_, _<_}
 use lib.ListN.{length, replicate}
+use Rattle.rules.specs.Sizes.{maxJobs, maxWidth, maxLimit}
 use Rattle.rules.specs.Basics.{at, tabulate}
 use Rattle.rules.specs.Program.{slots}
 use Rattle.rules.specs.Boards.{Runs, runsb}
@@ -22,11 +23,11 @@ use Rattle.seats.specs.Filled.{Filled}
 
 -- each of the places of slot s is one of eight, with a job that an array by job number has
 abbrev pub PlacesIn : List ℕ → ℕ → Set → Type 0
-PlacesIn words s places = (p : ℕ) → member places p ≡ true → (p < 8) × (tablesIn words .who s p < 400)
+PlacesIn words s places = (p : ℕ) → member places p ≡ true → (p < maxWidth) × (tablesIn words .who s p < maxJobs)
 
 -- no row of marks is longer: the bytes of a bitmap for 64 slots
 abbrev pub bitmapBytes : ℕ
-bitmapBytes = 64 * 821
+bitmapBytes = maxLimit * 821
 
 -- what is asked: windows that bound every list, tables of `filled` slots, place and tail of each job in the arrays, and a length `least` that no
 -- list with at most `cap` jobs a slot is below, and that leaves each job room
@@ -34,12 +35,12 @@ pub record Search (W : Windows) (cap filled least limit jobs : ℕ) (words place
   pub leads : Leads W
   pub bounds : Bounds W limit
   pub count : W .n ≡ jobs
-  pub jobs-fit : jobs ≤ 400
+  pub jobs-fit : jobs ≤ maxJobs
   pub rows : Filled W filled words
   pub some : 1 ≤ filled
   pub more : filled ≤ least
   pub limit-pos : 0 < limit
-  pub few : limit ≤ 64
+  pub few : limit ≤ maxLimit
   pub room : (C : ℕ) → least ≤ C → C ≤ limit → Room W C
   pub in-time : (i : ℕ) → i < jobs → limit ≤ W .d i + W .θ i
   pub places-are : (i : ℕ) → i < jobs → W .r i < W .d i → at places i ≡ placeOf W i
@@ -47,7 +48,7 @@ pub record Search (W : Windows) (cap filled least limit jobs : ℕ) (words place
   pub cap-at : at words capAt ≡ cap
   pub low : AtLeast (W .n) (Runs (W .n) (W .needs) cap) least
   pub bitmap-fits : bitmapBytes ≤ bytes
-  pub path-len : length path ≡ 64
+  pub path-len : length path ≡ maxLimit
 
 -- the start list of the plan of C slots; the limit stands for a job without a start
 abbrev pub listFound : Windows → ℕ → ℕ → ℕ → List ℕ → List ℕ
@@ -58,13 +59,14 @@ listFound W cap limit C words = placed W (placeOf W) 0 (planOf (tablesIn words) 
 pub record PlanFound (W : Windows) (cap limit C : ℕ) (words path : List ℕ) : Type 0 where
   pub has-places : HasPlaces W
   pub ready : Ready W (seatsBy W has-places) C (tablesIn words)
-  pub roof : C ≤ limit
-  pub path-len : length path ≡ 64
+  pub in-limit : C ≤ limit
+  pub path-len : length path ≡ maxLimit
   pub full : length (planOf (tablesIn words) cap C .sets) ≡ C
   pub same : (s : ℕ) → s < C → at path s ≡ at (planOf (tablesIn words) cap C .sets) s
   pub is-best : best (W .n) (runsb (W .n) (W .needs) cap) limit ≡ some (listFound W cap limit C words)
   pub slots-are : slots (listFound W cap limit C words) ≡ C
-  pub starts-are : written (tablesIn words) 0 (planOf (tablesIn words) cap C .sets) (replicate 400 0) ≡ tabulate (at (listFound W cap limit C words)) 400 0
+  pub starts-are : written (tablesIn words) 0 (planOf (tablesIn words) cap C .sets) (replicate maxJobs 0)
+      ≡ tabulate (at (listFound W cap limit C words)) maxJobs 0
 
 -- the answer: 0 where no list fits the limit, else the slots of the best one
 pub record Found (W : Windows) (cap limit r : ℕ) (words path : List ℕ) : Type 0 where

@@ -8,6 +8,7 @@ use Prim.Native.Nat.{ℕ, zero, suc, _+_, _-_, _≤_, _<_}
 use native.Mathlib.Omega.{arith}
 use lib.ListN.{length, length-set}
 use lib.Seq.{getD-set-same, getD-set-other}
+use Rattle.rules.specs.Sizes.{maxLimit, maxJobs}
 use Rattle.rules.specs.Basics.{at}
 use Rattle.rules.specs.Boards.{Runs, runsb}
 use Rattle.rules.specs.Preference.{best}
@@ -58,7 +59,7 @@ pub record Going (W : Windows) (cap least has next : ℕ) (words path : List ℕ
   pub from : least ≤ next
   pub cap-at : at words capAt ≡ cap
   pub low : AtLeast (W .n) (Runs (W .n) (W .needs) cap) next
-  pub path-len : length path ≡ 64
+  pub path-len : length path ≡ maxLimit
 
 module _ (W : Windows) (cap filled least limit jobs : ℕ) (words places tail : List ℕ) (bytes : ℕ) (path : List ℕ)
     (Q : Search W cap filled least limit jobs words places tail bytes path) where
@@ -73,7 +74,7 @@ module _ (W : Windows) (cap filled least limit jobs : ℕ) (words places tail : 
     a-plan = λ l. absurd (omega arith);
   }
 
-  module _ (has C : ℕ) (before path′ : List ℕ) (G : Going W cap least has C before path′) (roof : C ≤ limit) where
+  module _ (has C : ℕ) (before path′ : List ℕ) (G : Going W cap least has C before path′) (in-limit : C ≤ limit) where
     -- what the fitting of the tables asks
     pub fitting : Fitting W has C jobs before places tail
     fitting = record {
@@ -84,9 +85,9 @@ module _ (W : Windows) (cap filled least limit jobs : ℕ) (words places tail : 
       some = G .some;
       more = G .more;
       few = omega (arith, Q .few);
-      room = Q .room C (G .from) roof;
+      room = Q .room C (G .from) in-limit;
       in-time = λ i l. omega (arith, Q .in-time i l);
-      places-are = λ i l. Q .places-are i l (Q .room C (G .from) roof .holds i (omega (arith, Q .count)));
+      places-are = λ i l. Q .places-are i l (Q .room C (G .from) in-limit .holds i (omega (arith, Q .count)));
       tails-are = Q .tails-are;
     }
 
@@ -101,7 +102,7 @@ module _ (W : Windows) (cap filled least limit jobs : ℕ) (words places tail : 
       shows = filled-shows (Q .leads) has-places (omega (arith, Q .few)) (F .rows)
 
       ready : Ready W Z C (tablesIn after)
-      ready = record { room = Q .room C (G .from) roof; shows = shows; due = F .shows-due has-places }
+      ready = record { room = Q .room C (G .from) in-limit; shows = shows; due = F .shows-due has-places }
 
       cap-is : capIn after ≡ cap
       cap-is = F .cap-at ∙ G .cap-at
@@ -142,7 +143,8 @@ module _ (W : Windows) (cap filled least limit jobs : ℕ) (words places tail : 
       reached = record { total = omega arith; of-slot = empty-subset empty; included = empty-subset empty }
 
       pub none-due : isSubset (tablesIn after .due 0) empty ≡ true
-      none-due = subset-on (F .shows-due has-places .due-is 0 (omega arith)) (on-empty (Z .place) [] (λ i. ⊥) (λ i m p. p)) .1 (λ i m. absurd (List·Memᴰ·not-nil m))
+      none-due = subset-on (F .shows-due has-places .due-is 0 (omega arith)) (on-empty (Z .place) [] (λ i. ⊥) (λ i m p. p)) .1
+          (λ i m. absurd (List·Memᴰ·not-nil m))
 
       -- the search finds the plan of the model, whatever the bitmap held
       module _ (dead : List ℕ) (h : bitmapBytes ≤ length dead) where
@@ -155,7 +157,8 @@ module _ (W : Windows) (cap filled least limit jobs : ℕ) (words places tail : 
             (at after (marksAt + C)) dead (omega (arith, bitmap-bytes)) (omega arith))
 
         -- no plan: no list is so short
-        pub not-found : (b : Bool) → b ≡ exploredIn after 0 empty empty (cleared (at after (marksAt + C)) dead) .plan .ok → b ≡ false → (path″ : List ℕ) → length path″ ≡ 64
+        pub not-found : (b : Bool) → b ≡ exploredIn after 0 empty empty (cleared (at after (marksAt + C)) dead) .plan .ok → b ≡ false → (path″ : List ℕ)
+            → length path″ ≡ maxLimit
             → Going W cap least C (suc C) after path″
         not-found b e n path″ len = record {
           rows = F .rows;
@@ -163,7 +166,7 @@ module _ (W : Windows) (cap filled least limit jobs : ℕ) (words places tail : 
           more = omega arith;
           from = omega (arith, G .from);
           cap-at = cap-is;
-          low = plan-none W Z limit (Q .leads) (Q .bounds) cap (tablesIn after) C roof ready (G .low) (ap (λ p. p .ok) (sym explored-is) ∙ sym e ∙ n);
+          low = plan-none W Z limit (Q .leads) (Q .bounds) cap (tablesIn after) C in-limit ready (G .low) (ap (λ p. p .ok) (sym explored-is) ∙ sym e ∙ n);
           path-len = len;
         }
 
@@ -175,13 +178,14 @@ module _ (W : Windows) (cap filled least limit jobs : ℕ) (words places tail : 
           a-plan = λ _. record {
             has-places = has-places;
             ready = ready;
-            roof = roof;
+            in-limit = in-limit;
             path-len = ap length p ∙ length-written _ 0 path′ ∙ G .path-len;
             full = full;
             same = λ s l. ap (λ (q : List ℕ). at q s) p ∙ rw (explored-is) (each s l);
             is-best = is-best;
-            slots-are = plan-slots W Z limit (Q .leads) (Q .bounds) cap (tablesIn after) C roof ready (G .low) pos ok;
-            starts-are = plan-written W Z limit (Q .leads) (Q .bounds) cap (tablesIn after) C roof ready (G .low) pos ok 400 (omega (arith, Q .count, Q .jobs-fit));
+            slots-are = plan-slots W Z limit (Q .leads) (Q .bounds) cap (tablesIn after) C in-limit ready (G .low) pos ok;
+            starts-are = plan-written W Z limit (Q .leads) (Q .bounds) cap (tablesIn after) C in-limit ready (G .low) pos ok maxJobs
+                (omega (arith, Q .count, Q .jobs-fit));
           };
         }
           where
@@ -192,7 +196,7 @@ module _ (W : Windows) (cap filled least limit jobs : ℕ) (words places tail : 
             pos = omega (arith, G .some, G .more)
 
             is-best : best (W .n) (runsb (W .n) (W .needs) cap) limit ≡ some (listFound W cap limit C after)
-            is-best = plan-best W Z limit (Q .leads) (Q .bounds) cap (tablesIn after) C roof ready (G .low) pos ok
+            is-best = plan-best W Z limit (Q .leads) (Q .bounds) cap (tablesIn after) C in-limit ready (G .low) pos ok
 
             full : length (planOf (tablesIn after) cap C .sets) ≡ C
             full = plan-proper W Z C (tablesIn after) shows cap .full ok

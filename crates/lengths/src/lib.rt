@@ -11,6 +11,7 @@ use sizes::MAX_SLOTS;
 ghost use mathlib.Core.Path.{_≡_};
 ghost use Prim.Native.Nat.{ℕ, _<_, _≤_};
 ghost use lib.ListN.{length, take};
+ghost use Rattle.rules.specs.Sizes.{maxLimit};
 ghost use Rattle.jobset.specs.Sets.{setAt};
 ghost use Rattle.layout.specs.Layout.{tablesIn};
 ghost use Rattle.places.specs.Windows.{Windows};
@@ -20,7 +21,7 @@ ghost use Rattle.lengths.specs.Searching.{PlacesIn, Search, Found};
 
 // The jobs of one slot, at these places, start in it.
 fn start_all(tables: &[u16; TABLES], slot: usize, places: Set, starts: &mut [u8; MAX_JOBS])
-    requires { ⌜ (slot < 64) × PlacesIn (now tables) slot places ⌝ }
+    requires { ⌜ (slot < maxLimit) × PlacesIn (now tables) slot places ⌝ }
     ensures { λ _. ⌜ now (starts .exit) ≡ place slot (jobsUp (tablesIn (now (tables .entry)) .who slot) places) (now (starts .entry)) ⌝ }
 {
     let mut rest = places;
@@ -31,13 +32,6 @@ fn start_all(tables: &[u16; TABLES], slot: usize, places: Set, starts: &mut [u8;
     }
 }
 
-// A byte of the path, as a set of places.
-fn set_of(byte: u8) -> Set
-    ensures { λ r. ⌜ r .bits ≡ byte ⌝ }
-{
-    Set { bits: byte as u64 }
-}
-
 // The starts that the sets of the slots give.
 pub fn starts_of(
     tables: &[u16; TABLES],
@@ -45,12 +39,12 @@ pub fn starts_of(
     slots: usize,
     starts: &mut [u8; MAX_JOBS],
 )
-    requires { ⌜ (slots ≤ 64) × (length (now path) ≡ 64) × ((s : ℕ) → s < slots → PlacesIn (now tables) s (setAt (now path) s)) ⌝ }
+    requires { ⌜ (slots ≤ maxLimit) × (length (now path) ≡ maxLimit) × ((s : ℕ) → s < slots → PlacesIn (now tables) s (setAt (now path) s)) ⌝ }
     ensures { λ _. ⌜ now (starts .exit) ≡ written (tablesIn (now (tables .entry))) 0 (take slots (now (path .entry))) (now (starts .entry)) ⌝ }
 {
     let mut slot = 0;
     while slot < slots {
-        start_all(tables, slot, set_of(path[slot]), starts);
+        start_all(tables, slot, Set::of_byte(path[slot]), starts);
         slot += 1;
     }
 }
@@ -69,7 +63,9 @@ pub fn search(
     path: &mut [u8; MAX_SLOTS],
 ) -> usize
     requires { ⌜ ((W : Windows) × (cap : ℕ) × Search W cap filled least limit jobs (now tables) (now places) (now tail) (length (now dead)) (now path)) ⌝ }
-    ensures { λ r. ⌜ ((W : Windows) (cap : ℕ) → Search W cap filled least limit jobs (now (tables .entry)) (now (places .entry)) (now (tail .entry)) (length (now (dead .entry))) (now (path .entry)) → Found W cap limit r (now (tables .exit)) (now (path .exit))) ⌝ }
+    ensures { λ r. ⌜ ((W : Windows) (cap : ℕ)
+        → Search W cap filled least limit jobs (now (tables .entry)) (now (places .entry)) (now (tail .entry)) (length (now (dead .entry))) (now (path .entry))
+        → Found W cap limit r (now (tables .exit)) (now (path .exit))) ⌝ }
 {
     let mut has = filled;
     let mut next = least;

@@ -96,14 +96,9 @@ module _ (rows : List ℕ) (g : ℕ) where
           go h (yes l) = Memᴰ·append-left (takersFrom rows g c (suc w)) (word-is w k .1 (h .0, l, h .2))
           go h (no l) = Memᴰ·append-right here (rest .1 (omega arith, omega (arith, h .1), h .2))
 
-  -- those of a word, and those from a word on, are among all
+  -- those of a word are among all
   pub word-within : (n w k : ℕ) → w < wordsFor n → List·Memᴰ k (map (wordBits * w +_) (members (wordAt rows g w))) → List·Memᴰ k (takersOf rows n g)
   word-within n w k h m = let b = word-is w k .0 m in from-is (wordsFor n - 0) 0 k .1 (omega arith, omega (arith, b .1), b .2)
-
-  pub behind-within : (n w k : ℕ) → List·Memᴰ k (takersBehind rows n g w) → List·Memᴰ k (takersOf rows n g)
-  behind-within n w k m =
-      let b = from-is (wordsFor n - w) w k .0 m in
-      from-is (wordsFor n - 0) 0 k .1 (omega arith, omega (arith, b .0, b .1), b .2)
 
   -- they rise
   from-rising : (c w : ℕ) → Rising (takersFrom rows g c w)

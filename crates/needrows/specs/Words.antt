@@ -82,10 +82,6 @@ module _ (rows : List ℕ) where
   unfolding fourAt
   four-below i = omega (arith, two-below i, two-below (i + 2))
 
-  eight-below : (i : ℕ) → eightAt rows i < 2 ^ 64
-  unfolding eightAt
-  eight-below i = omega (arith, four-below i, four-below (i + 4))
-
   two-reads : Reads (twoAt rows) 2
   unfolding twoAt
   two-reads = doubled (byteAt rows) 1 byte-below byte-reads
@@ -99,11 +95,6 @@ module _ (rows : List ℕ) where
   eight-reads = doubled (fourAt rows) 4 four-below four-reads
 
   -- ---- a word
-
-  -- it is a set
-  pub word-below : (g w : ℕ) → wordAt rows g w .bits < 2 ^ 64
-  unfolding wordAt
-  word-below g w = eight-below (rowBytes * g + wordBytes * w)
 
   -- its members are marks of the row
   pub member-word : (g w j : ℕ) → j < wordBits → member (wordAt rows g w) j ≡ isMarked rows (rowBits * g + (wordBits * w + j))

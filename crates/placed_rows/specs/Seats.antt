@@ -3,6 +3,7 @@ use mathlib.Core.Path.{_≡_}
 use mathlib.Core.List.{List}
 use Prim.Native.Nat.{ℕ, zero, suc, _+_, _*_}
 use lib.ListN.{set, replicate}
+use Rattle.rules.specs.Sizes.{maxJobs}
 use Rattle.rules.specs.Basics.{at}
 use Rattle.rules.specs.Needs.{Need}
 use Rattle.layout.specs.Layout.{tableWords, whoAt, prevAt}
@@ -45,7 +46,7 @@ noWords = replicate tableWords 0
 
 -- the places before the first seat
 unfoldable pub noPlaces : List ℕ
-noPlaces = replicate 400 0
+noPlaces = replicate maxJobs 0
 
 -- the records of eight jobs with seats, without boards
 abbrev pub rowsOf : Seats → List JobRecord

@@ -6,6 +6,7 @@ use Prim.Native.Nat.{ℕ, _+_}
 use native.Mathlib.Numerals.{add-one}
 use lib.ListN.{length, set}
 use lib.Dec.{T, leb, ltb, eqb}
+use Rattle.rules.specs.Sizes.{maxLimit, maxJobs}
 use Rattle.rules.specs.Basics.{at, imp, all, range}
 use Rattle.rules.specs.Needs.{Need, givesb}
 use Rattle.rules.specs.Program.{slots, keptb}
@@ -52,7 +53,7 @@ giverb needs t words places g i =
 -- the starts, tables and places are as the placing asks
 unfoldable pub seatedb : List Need → List ℕ → List ℕ → List ℕ → ℕ → Bool
 seatedb needs t words places count =
-    (leb (length t) 400 && leb count 64)
+    (leb (length t) maxJobs && leb count maxLimit)
     && (eqb (slots t) count
     && (all (λ d. ltb (d .0) (length t) && ltb (d .1) (length t)) needs
     && (keptb needs t
@@ -78,7 +79,7 @@ seated-by needs t words places count h =
 
 -- the seat of job i is one of eight places of one of 64 slots
 abbrev pub seatInb : Seats → ℕ → Bool
-seatInb seats i = ltb (at (seats .slots) i) 64 && ltb (at (seats .places) i) 8
+seatInb seats i = ltb (at (seats .slots) i) maxLimit && ltb (at (seats .places) i) 8
 
 -- the test of eight seats
 unfoldable pub seatsb : List Need → Seats → ℕ → Bool

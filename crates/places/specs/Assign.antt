@@ -1,14 +1,17 @@
--- The places that a file's jobs get: jobs enter by release, and each takes the lowest place that no held job has. Where no slot in which a
--- job enters holds more than eight jobs, it never runs out and is an assignment; it runs out exactly if some slot holds more. Assumes nothing.
+-- The places that a file's jobs get: jobs enter by release, and each takes the lowest place that no job with an open window has (greedy
+-- colouring of an interval graph). Where no slot in which a job enters is in more than eight windows there is a place for every job, and
+-- otherwise not. Assumes nothing.
 use mathlib.Core.Path.{_≡_, refl, sym, ap, _∙_}
 use mathlib.Core.Logic.{_⊎_, inl, inr, ⊎-elim, _↔_}
 use mathlib.Core.Bool.{Bool, true, false}
-use mathlib.Core.List.{List, [], _∷_, _++_, List·Memᴰ, List·Memᴰ·head, List·Memᴰ·tail, List·Memᴰ·cases-cons, List·Memᴰ·not-nil, List·Memᴰ·append-cases, Memᴰ·append-left, Memᴰ·append-right}
+use mathlib.Core.List.{List, [], _∷_, _++_, List·Memᴰ, List·Memᴰ·head, List·Memᴰ·tail, List·Memᴰ·cases-cons, List·Memᴰ·not-nil, List·Memᴰ·append-cases}
+use mathlib.Core.List.{Memᴰ·append-left, Memᴰ·append-right}
 use Prim.Native.Nat.{ℕ, zero, suc, _+_, _≤_, _<_}
 use native.Mathlib.Omega.{arith}
 use native.Mathlib.Decide.{decLt, ℕ-discrete}
 use lib.ListN.{length}
 use lib.Dec.{ltb, eqb}
+use Rattle.rules.specs.Sizes.{maxWidth}
 use Rattle.rules.specs.Basics.{choose, range, most, Distinct}
 use Rattle.laws.specs.Tests.{T-ltb, T-eqb, choose-yes, choose-no}
 use Rattle.laws.specs.Lists.{filter-rising, range-rising}
@@ -27,15 +30,15 @@ freeFrom zero p S = p
 freeFrom (suc k) p S = let rest = freeFrom k (suc p) S in choose (member S p) rest p
 
 unfoldable pub freePlace : Set → ℕ
-freePlace S = freeFrom 8 0 S
+freePlace S = freeFrom maxWidth 0 S
 
 -- p is the lowest place that S has not
 pub record Lowest (S : Set) (p : ℕ) : Type 0 where
-  pub at-most : p ≤ 8
-  pub is-free : p < 8 → member S p ≡ false
+  pub at-most : p ≤ maxWidth
+  pub is-free : p < maxWidth → member S p ≡ false
   pub below : (q : ℕ) → q < p → member S q ≡ true
 
-free-from : (k p : ℕ) (S : Set) → k + p ≡ 8 → ((q : ℕ) → q < p → member S q ≡ true) → Lowest S (freeFrom k p S)
+free-from : (k p : ℕ) (S : Set) → k + p ≡ maxWidth → ((q : ℕ) → q < p → member S q ≡ true) → Lowest S (freeFrom k p S)
 unfolding freeFrom choose
 free-from zero p S e f = record { at-most = omega arith; is-free = λ l. absurd (omega arith); below = f }
 free-from (suc k) p S e f = go (member S p) refl (free-from k (suc p) S (omega arith))
@@ -44,13 +47,14 @@ free-from (suc k) p S e f = go (member S p) refl (free-from k (suc p) S (omega a
     more m q l (yes z) = rw z m
     more m q l (no z) = f q (omega arith)
 
-    go : (b : Bool) → member S p ≡ b → (((q : ℕ) → q < suc p → member S q ≡ true) → Lowest S (freeFrom k (suc p) S)) → Lowest S (choose b (freeFrom k (suc p) S) p)
+    go : (b : Bool) → member S p ≡ b → (((q : ℕ) → q < suc p → member S q ≡ true) → Lowest S (freeFrom k (suc p) S))
+        → Lowest S (choose b (freeFrom k (suc p) S) p)
     go true m r = r (λ q l. more m q l (ℕ-discrete q p))
     go false m r = record { at-most = omega arith; is-free = λ l. m; below = f }
 
 pub free-place : (S : Set) → Lowest S (freePlace S)
 unfolding freePlace
-free-place S = free-from 8 0 S refl (λ q l. absurd (omega arith))
+free-place S = free-from maxWidth 0 S refl (λ q l. absurd (omega arith))
 
 -- and the only one
 pub lowest-only : (S : Set) (p q : ℕ) → Lowest S p → Lowest S q → p ≡ q
@@ -85,7 +89,7 @@ assign W before (i ∷ js) π = assign W (i ∷ before) js (giving π i (freePla
 
 -- the places of all jobs, entering in this order
 unfoldable pub assigned : Windows → List ℕ → ℕ → ℕ
-assigned W order = assign W [] order (λ i. 8)
+assigned W order = assign W [] order (λ i. maxWidth)
 
 -- an order in which jobs may enter: each job once, releases never falling
 abbrev pub ByRelease : Windows → List ℕ → Type 0
@@ -99,12 +103,12 @@ pub record Entering (W : Windows) (order : List ℕ) : Type 0 where
 
 -- of the jobs that have entered: those that share a slot have different places below 8, and one that got none entered a slot of more than eight
 record Sound (W : Windows) (before : List ℕ) (π : ℕ → ℕ) : Type 0 where
-  apart : (s i j : ℕ) → List·Memᴰ i before → List·Memᴰ j before → List·Memᴰ i (held W s) → List·Memᴰ j (held W s) → π i < 8 → π i ≡ π j → i ≡ j
-  crowded : (i : ℕ) → List·Memᴰ i before → W .r i < W .d i → 8 ≤ π i → 8 < length (held W (W .r i))
+  apart : (s i j : ℕ) → List·Memᴰ i before → List·Memᴰ j before → List·Memᴰ i (held W s) → List·Memᴰ j (held W s) → π i < maxWidth → π i ≡ π j → i ≡ j
+  crowded : (i : ℕ) → List·Memᴰ i before → W .r i < W .d i → maxWidth ≤ π i → maxWidth < length (held W (W .r i))
 
 -- each job with a window has a place
 abbrev pub Enough : Windows → List ℕ → Type 0
-Enough W order = (i : ℕ) → i < W .n → W .r i < W .d i → assigned W order i < 8
+Enough W order = (i : ℕ) → i < W .n → W .r i < W .d i → assigned W order i < maxWidth
 
 module _ (W : Windows) where
   -- one job more
@@ -121,8 +125,10 @@ module _ (W : Windows) where
 
     in-used : (q : ℕ) → (member used q ≡ true) ↔ ((j : ℕ) × List·Memᴰ j before × (π j ≡ q) × (W .r i < W .d j))
     unfolding taken
-    in-used q = let w = in-seats π (λ j. ltb (W .r i) (W .d j)) before q in
-        (λ m. let v = w .0 m in (v .0, v .1, v .2, T-ltb (W .r i) (W .d (v .0)) .0 (v .3)), λ v. w .1 (v .0, v .1, v .2, T-ltb (W .r i) (W .d (v .0)) .1 (v .3)))
+    in-used q = let w = in-seats π (λ j. ltb (W .r i) (W .d j)) before q in (
+      λ m. let v = w .0 m in (v .0, v .1, v .2, T-ltb (W .r i) (W .d (v .0)) .0 (v .3)),
+      λ v. w .1 (v .0, v .1, v .2, T-ltb (W .r i) (W .d (v .0)) .1 (v .3)),
+    )
 
     low : Lowest used p
     low = free-place used
@@ -134,17 +140,22 @@ module _ (W : Windows) where
     old j m = giving-other π i p j (λ e. out (rw e at m))
 
     -- the new place is none of those held
-    new : (s j : ℕ) → List·Memᴰ j before → List·Memᴰ i (held W s) → List·Memᴰ j (held W s) → p < 8 → ¬ (p ≡ π j)
+    new : (s j : ℕ) → List·Memᴰ j before → List·Memᴰ i (held W s) → List·Memᴰ j (held W s) → p < maxWidth → ¬ (p ≡ π j)
     new s j m a b l e = present (member used p) (in-used p .1 (j, m, sym e, omega (arith, in-held W s i .0 a .1, in-held W s j .0 b .2))) (low .is-free l)
 
     -- all eight places taken: with this job nine are held
     abbrev Has : ℕ → ℕ → Type 0
-    Has q j = ((q < 8) × (π j ≡ q) × List·Memᴰ j before) ⊎ ((q ≡ 8) × (j ≡ i))
+    Has q j = ((q < maxWidth) × (π j ≡ q) × List·Memᴰ j before) ⊎ ((q ≡ maxWidth) × (j ≡ i))
 
-    crowd : W .r i < W .d i → 8 ≤ p → 8 < length (held W (W .r i))
-    crowd o l = omega (arith, length-range 9 0, pigeonhole-by Has (range 9 0) (held W (W .r i)) (rising-distinct (range 9 0) (range-rising 9 0)) (λ q m. find q (range-below 9 q .0 m) (decLt q 8)) (λ q z j a b u v. same q z j u v))
+    crowd : W .r i < W .d i → maxWidth ≤ p → maxWidth < length (held W (W .r i))
+    crowd o l = omega (
+      arith,
+      length-range (suc maxWidth) 0,
+      pigeonhole-by Has (range (suc maxWidth) 0) (held W (W .r i)) (rising-distinct (range (suc maxWidth) 0) (range-rising (suc maxWidth) 0))
+          (λ q m. find q (range-below (suc maxWidth) q .0 m) (decLt q maxWidth)) (λ q z j a b u v. same q z j u v),
+    )
       where
-        find : (q : ℕ) → q < 9 → Dec (q < 8) → (j : ℕ) × List·Memᴰ j (held W (W .r i)) × Has q j
+        find : (q : ℕ) → q < (suc maxWidth) → Dec (q < maxWidth) → (j : ℕ) × List·Memᴰ j (held W (W .r i)) × Has q j
         find q h (yes g) = let w = in-used q .0 (low .below q (omega arith)) in
             (w .0, in-held W (W .r i) (w .0) .1 (in-n (w .0) (List·Memᴰ·tail (w .1)), earlier (w .0) (w .1), w .3), inl (g, w .2, w .1))
         find q h (no g) = (i, in-held W (W .r i) i .1 (in-n i (List·Memᴰ·head refl), omega arith, o), inr (omega arith, refl))
@@ -161,18 +172,20 @@ module _ (W : Windows) where
       crowded = λ j m. one j (List·Memᴰ·cases-cons m);
     }
       where
-        two : (s j k : ℕ) → (j ≡ i) ⊎ List·Memᴰ j before → (k ≡ i) ⊎ List·Memᴰ k before → List·Memᴰ j (held W s) → List·Memᴰ k (held W s) → π′ j < 8 → π′ j ≡ π′ k → j ≡ k
+        two : (s j k : ℕ) → (j ≡ i) ⊎ List·Memᴰ j before → (k ≡ i) ⊎ List·Memᴰ k before → List·Memᴰ j (held W s) → List·Memᴰ k (held W s) → π′ j < maxWidth
+            → π′ j ≡ π′ k → j ≡ k
         two s j k (inl a) (inl b) u v l e = a ∙ sym b
         two s j k (inl a) (inr b) u v l e = let z : π′ j ≡ p = ap π′ a ∙ here in absurd (new s k b (rw a at u) v (omega arith) (sym z ∙ e ∙ old k b))
         two s j k (inr a) (inl b) u v l e = let z : π′ k ≡ p = ap π′ b ∙ here in absurd (new s j a (rw b at v) u (omega arith) (sym z ∙ sym e ∙ old j a))
         two s j k (inr a) (inr b) u v l e = so .apart s j k a b u v (omega (arith, old j a)) (sym (old j a) ∙ e ∙ old k b)
 
-        one : (j : ℕ) → (j ≡ i) ⊎ List·Memᴰ j before → W .r j < W .d j → 8 ≤ π′ j → 8 < length (held W (W .r j))
+        one : (j : ℕ) → (j ≡ i) ⊎ List·Memᴰ j before → W .r j < W .d j → maxWidth ≤ π′ j → maxWidth < length (held W (W .r j))
         one j (inl a) o l = let z : π′ j ≡ p = ap π′ a ∙ here in rw a (crowd (rw a at o) (omega arith))
         one j (inr a) o l = so .crowded j a o (omega (arith, old j a))
 
   -- all jobs
-  run : (js before : List ℕ) (π : ℕ → ℕ) → ((j : ℕ) → List·Memᴰ j js → j < W .n) → ((j : ℕ) → List·Memᴰ j before → j < W .n) → Distinct js → ((j : ℕ) → List·Memᴰ j js → ¬ (List·Memᴰ j before))
+  run : (js before : List ℕ) (π : ℕ → ℕ) → ((j : ℕ) → List·Memᴰ j js → j < W .n) → ((j : ℕ) → List·Memᴰ j before → j < W .n) → Distinct js
+      → ((j : ℕ) → List·Memᴰ j js → ¬ (List·Memᴰ j before))
       → ByRelease W js → ((i j : ℕ) → List·Memᴰ i js → List·Memᴰ j before → W .r j ≤ W .r i) → Sound W before π
       → (all : List ℕ) × ((i : ℕ) → (List·Memᴰ i before ⊎ List·Memᴰ i js) → List·Memᴰ i all) × Sound W all (assign W before js π)
   unfolding assign
@@ -190,7 +203,8 @@ module _ (W : Windows) where
   module _ (order : List ℕ) (en : Entering W order) where
     whole : (all : List ℕ) × ((i : ℕ) → (List·Memᴰ i [] ⊎ List·Memᴰ i order) → List·Memᴰ i all) × Sound W all (assigned W order)
     unfolding assigned
-    whole = run order [] (λ i. 8) (λ j m. en .all j .0 m) (λ j m. absurd (List·Memᴰ·not-nil m)) (en .distinct) (λ j m k. List·Memᴰ·not-nil k) (en .by-release)
+    whole = run order [] (λ i. maxWidth) (λ j m. en .all j .0 m) (λ j m. absurd (List·Memᴰ·not-nil m)) (en .distinct) (λ j m k. List·Memᴰ·not-nil k)
+        (en .by-release)
         (λ i j m k. absurd (List·Memᴰ·not-nil k)) record { apart = λ s i j m. absurd (List·Memᴰ·not-nil m); crowded = λ i m. absurd (List·Memᴰ·not-nil m) }
 
     entered : (i : ℕ) → i < W .n → List·Memᴰ i (whole .0)
@@ -201,14 +215,15 @@ module _ (W : Windows) where
     assigned-seats f = record {
       place = assigned W order;
       low = λ s i m. let w = in-held W s i .0 m in f i (w .0) (omega (arith, w .1, w .2));
-      apart = λ s i j a b e. let w = in-held W s i .0 a in whole .2 .apart s i j (entered i (w .0)) (entered j (in-held W s j .0 b .0)) a b (f i (w .0) (omega (arith, w .1, w .2))) e;
+      apart = λ s i j a b e. let w = in-held W s i .0 a in
+          whole .2 .apart s i j (entered i (w .0)) (entered j (in-held W s j .0 b .0)) a b (f i (w .0) (omega (arith, w .1, w .2))) e;
     }
 
     -- and there are enough where no slot in which a job enters holds more than eight
-    pub narrow-enough : ((i : ℕ) → i < W .n → W .r i < W .d i → length (held W (W .r i)) ≤ 8) → Enough W order
-    narrow-enough f i l o = go (decLt (assigned W order i) 8)
+    pub narrow-enough : ((i : ℕ) → i < W .n → W .r i < W .d i → length (held W (W .r i)) ≤ maxWidth) → Enough W order
+    narrow-enough f i l o = go (decLt (assigned W order i) maxWidth)
       where
-        go : Dec (assigned W order i < 8) → assigned W order i < 8
+        go : Dec (assigned W order i < maxWidth) → assigned W order i < maxWidth
         go (yes h) = h
         go (no h) = absurd (omega (arith, whole .2 .crowded i (entered i l) o (omega arith), f i l o))
 
@@ -250,7 +265,8 @@ module _ (W : Windows) where
     λ o. r .1 (⊎-elim (λ a. ⊎-elim (λ e. inr (List·Memᴰ·head e)) inl (List·Memᴰ·cases-cons a)) (λ a. inr (List·Memᴰ·tail a)) o),
   )
 
-  assign-at : (xs ys before : List ℕ) (i : ℕ) (π : ℕ → ℕ) → ¬ (List·Memᴰ i ys) → Distinct (xs ++ i ∷ ys) → ((j : ℕ) → List·Memᴰ j before → ¬ (List·Memᴰ j (xs ++ i ∷ ys)))
+  assign-at : (xs ys before : List ℕ) (i : ℕ) (π : ℕ → ℕ) → ¬ (List·Memᴰ i ys) → Distinct (xs ++ i ∷ ys)
+      → ((j : ℕ) → List·Memᴰ j before → ¬ (List·Memᴰ j (xs ++ i ∷ ys)))
       → assign W before (xs ++ i ∷ ys) π i ≡ freePlace (taken W (assign W before (xs ++ i ∷ ys) π) (lastFirst xs before) (W .r i))
   unfolding assign lastFirst
   assign-at [] ys before i π n d out =
@@ -263,11 +279,13 @@ module _ (W : Windows) where
   assign-at (x ∷ xs) ys before i π n d out = assign-at xs ys (x ∷ before) i (giving π x (freePlace (taken W π before (W .r x)))) n (d .1)
       (λ j m k. ⊎-elim (λ e. d .0 (rw e at k)) (λ w. out j w (List·Memᴰ·tail k)) (List·Memᴰ·cases-cons m))
 
-  pub assigned-at : (order xs ys : List ℕ) (i : ℕ) → Distinct order → order ≡ xs ++ i ∷ ys → Lowest (taken W (assigned W order) xs (W .r i)) (assigned W order i)
+  pub assigned-at : (order xs ys : List ℕ) (i : ℕ) → Distinct order → order ≡ xs ++ i ∷ ys
+      → Lowest (taken W (assigned W order) xs (W .r i)) (assigned W order i)
   unfolding assigned
-  assigned-at order xs ys i d e = rw e (rw (assign-at xs ys [] i (λ j. 8) (later xs d′) d′ (λ j m. absurd (List·Memᴰ·not-nil m)))
-      (rw (taken-same W (assign W [] (xs ++ i ∷ ys) (λ j. 8)) (lastFirst xs []) xs (W .r i) (λ j. let w = in-lastFirst xs [] j in (λ m. ⊎-elim (λ a. a) (λ a. absurd (List·Memᴰ·not-nil a)) (w .0 m), λ m. w .1 (inl m))))
-      (free-place (taken W (assign W [] (xs ++ i ∷ ys) (λ j. 8)) xs (W .r i)))))
+  assigned-at order xs ys i d e = rw e (rw (assign-at xs ys [] i (λ j. maxWidth) (later xs d′) d′ (λ j m. absurd (List·Memᴰ·not-nil m)))
+      (rw (taken-same W (assign W [] (xs ++ i ∷ ys) (λ j. maxWidth)) (lastFirst xs []) xs (W .r i) (λ j. let w = in-lastFirst xs [] j in
+      (λ m. ⊎-elim (λ a. a) (λ a. absurd (List·Memᴰ·not-nil a)) (w .0 m), λ m. w .1 (inl m))))
+      (free-place (taken W (assign W [] (xs ++ i ∷ ys) (λ j. maxWidth)) xs (W .r i)))))
     where
       d′ : Distinct (xs ++ i ∷ ys)
       d′ = rw e at d
@@ -277,12 +295,12 @@ module _ (W : Windows) where
       later (z ∷ zs) q = later zs (q .1)
 
 -- an assignment leaves no slot with more than eight
-pub seats-eight : (W : Windows) → Seats W → (s : ℕ) → length (held W s) ≤ 8
+pub seats-eight : (W : Windows) → Seats W → (s : ℕ) → length (held W s) ≤ maxWidth
 seats-eight W Z s = omega (
   arith,
-  length-range 8 0,
-  pigeonhole-by (λ (i p : ℕ). Z .place i ≡ p) (held W s) (range 8 0) (rising-distinct (held W s) (held-rising W s))
-      (λ i m. (Z .place i, range-below 8 (Z .place i) .1 (Z .low s i m), refl)) (λ i j p a b e f. Z .apart s i j a b (e ∙ sym f)),
+  length-range maxWidth 0,
+  pigeonhole-by (λ (i p : ℕ). Z .place i ≡ p) (held W s) (range maxWidth 0) (rising-distinct (held W s) (held-rising W s))
+      (λ i m. (Z .place i, range-below maxWidth (Z .place i) .1 (Z .low s i m), refl)) (λ i j p a b e f. Z .apart s i j a b (e ∙ sym f)),
 )
 
 -- ---- such an order: by release, then by number
@@ -297,11 +315,13 @@ module _ (W : Windows) where
   unfolding entering
   in-entering zero i = (λ m. absurd (List·Memᴰ·not-nil m), λ w. absurd (omega (arith, w .1)))
   in-entering (suc m) i = let r = in-entering m i in let w = passing-in (λ i. eqb (W .r i) m) (W .n) i in (
-    λ k. ⊎-elim (λ a. (r .0 a .0, omega (arith, r .0 a .1))) (λ a. let v = w .0 a in (v .0, omega (arith, T-eqb (W .r i) m .0 (v .1)))) (List·Memᴰ·append-cases (entering W m) k),
+    λ k. ⊎-elim (λ a. (r .0 a .0, omega (arith, r .0 a .1))) (λ a. let v = w .0 a in (v .0, omega (arith, T-eqb (W .r i) m .0 (v .1))))
+        (List·Memᴰ·append-cases (entering W m) k),
     λ k. pick (r .1) (k .0) (k .1) (decLt (W .r i) m),
   )
     where
-      pick : ((i < W .n) × (W .r i < m) → List·Memᴰ i (entering W m)) → i < W .n → W .r i < suc m → Dec (W .r i < m) → List·Memᴰ i (entering W m ++ passing (λ i. eqb (W .r i) m) (W .n))
+      pick : ((i < W .n) × (W .r i < m) → List·Memᴰ i (entering W m)) → i < W .n → W .r i < suc m → Dec (W .r i < m)
+          → List·Memᴰ i (entering W m ++ passing (λ i. eqb (W .r i) m) (W .n))
       pick f l h (yes q) = Memᴰ·append-left (passing (λ i. eqb (W .r i) m) (W .n)) (f (l, q))
       pick f l h (no q) = Memᴰ·append-right (entering W m) (passing-in (λ i. eqb (W .r i) m) (W .n) i .1 (l, T-eqb (W .r i) m .1 (omega arith)))
 
@@ -317,7 +337,10 @@ module _ (W : Windows) where
 
   by-append : (xs ys : List ℕ) → ByRelease W xs → ByRelease W ys → ((i j : ℕ) → List·Memᴰ i xs → List·Memᴰ j ys → W .r i ≤ W .r j) → ByRelease W (xs ++ ys)
   by-append [] ys a b f = b
-  by-append (x ∷ xs) ys a b f = (λ j m. ⊎-elim (a .0 j) (f x j (List·Memᴰ·head refl)) (List·Memᴰ·append-cases xs m), by-append xs ys (a .1) b (λ i j m. f i j (List·Memᴰ·tail m)))
+  by-append (x ∷ xs) ys a b f = (
+    λ j m. ⊎-elim (a .0 j) (f x j (List·Memᴰ·head refl)) (List·Memᴰ·append-cases xs m),
+    by-append xs ys (a .1) b (λ i j m. f i j (List·Memᴰ·tail m)),
+  )
 
   by-same : (m : ℕ) (xs : List ℕ) → ((i : ℕ) → List·Memᴰ i xs → W .r i ≡ m) → ByRelease W xs
   by-same m [] f = tt
@@ -326,12 +349,14 @@ module _ (W : Windows) where
   entering-by : (m : ℕ) → ByRelease W (entering W m)
   unfolding entering
   entering-by zero = tt
-  entering-by (suc m) = by-append (entering W m) (passing (λ i. eqb (W .r i) m) (W .n)) (entering-by m) (by-same m (passing (λ i. eqb (W .r i) m) (W .n)) (at-slot m))
+  entering-by (suc m) = by-append (entering W m) (passing (λ i. eqb (W .r i) m) (W .n)) (entering-by m)
+      (by-same m (passing (λ i. eqb (W .r i) m) (W .n)) (at-slot m))
       (λ i j a b. omega (arith, in-entering m i .0 a .1, at-slot m j b))
 
   pub entering-is : Entering W (entering W (most (λ i. suc (W .r i)) (W .n)))
   entering-is = record {
-    all = λ i. let w = in-entering (most (λ i. suc (W .r i)) (W .n)) i in (λ m. w .0 m .0, λ l. w .1 (l, omega (arith, most-ge (λ i. suc (W .r i)) (W .n) i l)));
+    all = λ i. let w = in-entering (most (λ i. suc (W .r i)) (W .n)) i in
+        (λ m. w .0 m .0, λ l. w .1 (l, omega (arith, most-ge (λ i. suc (W .r i)) (W .n) i l)));
     distinct = entering-distinct (most (λ i. suc (W .r i)) (W .n));
     by-release = entering-by (most (λ i. suc (W .r i)) (W .n));
   }

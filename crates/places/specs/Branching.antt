@@ -3,7 +3,8 @@
 use mathlib.Core.Path.{_≡_, refl, sym, ap, ap₂, _∙_}
 use mathlib.Core.Logic.{_⊎_, inl, inr, ⊎-elim, _↔_}
 use mathlib.Core.Bool.{Bool, true, false, or-true, or-false, and-eq-true-iff}
-use mathlib.Core.List.{List, [], _∷_, _++_, map, append-nil, List·Memᴰ, List·Memᴰ·head, List·Memᴰ·tail, List·Memᴰ·cases-cons, List·Memᴰ·not-nil, List·Memᴰ·append-cases, Memᴰ·append-left, Memᴰ·append-right}
+use mathlib.Core.List.{List, [], _∷_, _++_, map, append-nil, List·Memᴰ, List·Memᴰ·head, List·Memᴰ·tail, List·Memᴰ·cases-cons, List·Memᴰ·not-nil}
+use mathlib.Core.List.{List·Memᴰ·append-cases, Memᴰ·append-left, Memᴰ·append-right}
 use Prim.Native.Nat.{ℕ, zero, suc, _+_, _^_, _≤_, _<_}
 use native.Mathlib.Nat.{one-mul, pow-suc}
 use native.Mathlib.Omega.{arith}
@@ -20,10 +21,12 @@ use Rattle.jobset.specs.Membership.{member-with, in-union}
 use Rattle.jobset.specs.Inclusion.{subset-antisym}
 use Rattle.jobset.specs.Members.{in-members}
 use Rattle.jobset.specs.Tests.{absent, present, bool-ext}
-use Rattle.places.specs.Rows.{bit-low, empty-says, byNumber, Sorted, row-distinct, in-row, row-sorted, chosen, placesOf, in-places, Loose, isTry, is-try, picks, triedBelow}
+use Rattle.places.specs.Rows.{bit-low, empty-says, byNumber, Sorted, row-distinct, in-row, row-sorted, chosen, placesOf, in-places, Loose, isTry, is-try}
+use Rattle.places.specs.Rows.{picks, triedBelow}
 use Rattle.places.specs.Tables.{Tables}
 use Rattle.places.specs.declared.Candidates.{Candidates}
-use Rattle.places.specs.Slot.{isForced, carried, candidatesAt, nearAt, ableOf, rowAt, fitOf, mostOf, triesAt, in-forced, in-tied, candidates-held, in-row-at, most-is}
+use Rattle.places.specs.Slot.{isForced, carried, candidatesAt, nearAt, ableOf, rowAt, fitOf, mostOf, triesAt, in-forced, in-tied, candidates-held}
+use Rattle.places.specs.Slot.{in-row-at, most-is}
 use Rattle.places.specs.Fit.{members-distinct, size-is, Ties, fit-most}
 use Rattle.places.specs.OneSet.{ties-at}
 

@@ -18,7 +18,8 @@ abbrev pub Gathers : (ℕ → ℕ) → Set → (ℕ → Type 0) → Type 0
 Gathers π S Q = (q : ℕ) → (member S q ≡ true) ↔ ((i : ℕ) × Q i × (π i ≡ q))
 
 -- where all these are of H, and of H just these have P
-pub gathered : (π : ℕ → ℕ) (H : List ℕ) (S : Set) (P Q : ℕ → Type 0) → Apart π H → ((i : ℕ) → Q i → List·Memᴰ i H × P i) → ((i : ℕ) → List·Memᴰ i H → P i → Q i) → Gathers π S Q → On π H S P
+pub gathered : (π : ℕ → ℕ) (H : List ℕ) (S : Set) (P Q : ℕ → Type 0) → Apart π H → ((i : ℕ) → Q i → List·Memᴰ i H × P i) → ((i : ℕ) → List·Memᴰ i H → P i → Q i)
+    → Gathers π S Q → On π H S P
 gathered π H S P Q ap-H f g h = record {
   to = λ i m e. let w = h (π i) .0 e in let v = f (w .0) (w .1) in let z : w .0 ≡ i = ap-H (w .0) i (v .0) m (w .2) in rw z at (v .1);
   from = λ i m p. h (π i) .1 (i, g i m p, refl);
@@ -35,7 +36,10 @@ module _ (W : Windows) (Z : Seats W) where
   carried-on s S E P a b = record {
     to = λ i m e. let w = in-minus S E (π i) .0 e in let v = stays (π i) (w .0) (w .1) in
         let q : v .0 ≡ i = Z .apart s (v .0) i (v .1) m (v .2) in rw q at (v .3);
-    from = λ i m p. in-minus S E (π i) .1 (a .from i (p .0) (p .1), absent (member E (π i)) (λ e. let d = b .to i (p .0) e in omega (arith, in-held W s i .0 m .2)));
+    from = λ i m p. in-minus S E (π i) .1 (
+      a .from i (p .0) (p .1),
+      absent (member E (π i)) (λ e. let d = b .to i (p .0) e in omega (arith, in-held W s i .0 m .2)),
+    );
     bound = λ p e. let w = in-minus S E p .0 e in let v = stays p (w .0) (w .1) in (v .0, v .1, v .2);
   }
     where
@@ -50,6 +54,7 @@ module _ (W : Windows) (Z : Seats W) where
   pub due-shows : (C : ℕ) (A : Tables) → Room W C → ((s : ℕ) → s ≤ C → Gathers (Z .place) (A .due s) (λ i. (i < W .n) × Due W C s i)) → ShowsDue W Z C A
   due-shows C A room g = record {
     due-is = λ s h. gathered π (hold W s) (A .due s) (Due W C s) (λ i. (i < W .n) × Due W C s i) (apart-hold W Z s)
-        (λ i w. let a = room .holds i (w .0) in let b = room .behind i (w .0) in (in-hold W s i .1 (w .0, ⊎-elim (λ e. omega arith) (λ e. omega arith) (w .1 .0), w .1 .1), w .1))
+        (λ i w. let a = room .holds i (w .0) in let b = room .behind i (w .0) in
+        (in-hold W s i .1 (w .0, ⊎-elim (λ e. omega arith) (λ e. omega arith) (w .1 .0), w .1 .1), w .1))
         (λ i m d. (in-hold W s i .0 m .0, d)) (g s h);
   }

@@ -25,7 +25,8 @@ parts-length t [] = refl
 parts-length t (p ∷ ps) = go (t p) (parts-length t ps)
   where
     go : (b : Bool) → length ps ≡ length (filter t ps) + length (filter (λ p. not (t p)) ps)
-        → suc (length ps) ≡ length (choose b (p ∷ filter t ps) (filter t ps)) + length (choose (not b) (p ∷ filter (λ p. not (t p)) ps) (filter (λ p. not (t p)) ps))
+        → suc (length ps) ≡ length (choose b (p ∷ filter t ps) (filter t ps)) + length
+        (choose (not b) (p ∷ filter (λ p. not (t p)) ps) (filter (λ p. not (t p)) ps))
     go true e = omega arith
     go false e = omega arith
 
@@ -63,7 +64,8 @@ module _ (forced tied tying : Set) (near : ℕ → Set) (ties : Ties forced tied
   fit-most f loose = omega (arith, parts-length (member forced) ps, a, b, size-is forced (ties .forced-low), size-is tying (ties .tying-low))
     where
       a : length ours ≤ length (members forced)
-      a = pigeonhole ours (members forced) (filter-distinct (member forced) ps d) (λ p m. let w = T-true (member forced p) .0 (filter-mem⁻¹ (member forced) ps p m .1) in in-members forced p .1 (ties .forced-low p w, w))
+      a = pigeonhole ours (members forced) (filter-distinct (member forced) ps d)
+          (λ p m. let w = T-true (member forced p) .0 (filter-mem⁻¹ (member forced) ps p m .1) in in-members forced p .1 (ties .forced-low p w, w))
 
       tied-of : (p : ℕ) → List·Memᴰ p rest → List·Memᴰ p ps × (member tied p ≡ true)
       tied-of p m = let w = filter-mem⁻¹ (λ p. not (member forced p)) ps p m in (w .0, ⊎-elim (λ e. absurd (not-forced p (w .1) e)) (λ e. e) (f p (w .0)))
@@ -73,15 +75,21 @@ module _ (forced tied tying : Set) (near : ℕ → Set) (ties : Ties forced tied
           (λ p m. let w = ties .near-of p (tied-of p m .1) in (w .0, in-members tying (w .0) .1 (ties .tying-low (w .0) (w .2), w .2), w .1))
           (λ p q k x y. loose p q k (tied-of p x .0) (tied-of q y .0))
 
-  pub fit-least : ((p : ℕ) → member forced p ≡ true → List·Memᴰ p ps) → ((k : ℕ) → member tying k ≡ true → (p : ℕ) × List·Memᴰ p ps × (member tied p ≡ true) × (member (near p) k ≡ true))
+  pub fit-least : ((p : ℕ) → member forced p ≡ true → List·Memᴰ p ps)
+      → ((k : ℕ) → member tying k ≡ true → (p : ℕ) × List·Memᴰ p ps × (member tied p ≡ true) × (member (near p) k ≡ true))
       → size forced + size tying ≤ length ps
   fit-least f g = omega (arith, parts-length (member forced) ps, a, b, size-is forced (ties .forced-low), size-is tying (ties .tying-low))
     where
       a : length (members forced) ≤ length ours
-      a = pigeonhole (members forced) ours (members-distinct forced) (λ p m. let w = in-members forced p .0 m .1 in filter-mem (member forced) ps p (f p w) (T-true (member forced p) .1 w))
+      a = pigeonhole (members forced) ours (members-distinct forced) (λ p m. let w = in-members forced p .0 m .1 in
+          filter-mem (member forced) ps p (f p w) (T-true (member forced p) .1 w))
 
       b : length (members tying) ≤ length rest
       b = pigeonhole-by (λ (k p : ℕ). (member (near p) k ≡ true) × (member tied p ≡ true)) (members tying) rest (members-distinct tying)
-          (λ k m. let w = g k (in-members tying k .0 m .1) in
-          (w .0, filter-mem (λ p. not (member forced p)) ps (w .0) (w .1) (T-not (member forced (w .0)) .1 (λ t. ties .other (w .0) (T-true (member forced (w .0)) .0 t) (w .2))), (w .3, w .2)))
+          (λ k m. let w = g k (in-members tying k .0 m .1) in (
+            w .0,
+            filter-mem (λ p. not (member forced p)) ps (w .0) (w .1)
+                (T-not (member forced (w .0)) .1 (λ t. ties .other (w .0) (T-true (member forced (w .0)) .0 t) (w .2))),
+            (w .3, w .2),
+          ))
           (λ k l p x y u v. ties .near-one p k l (u .1) (u .0) (v .0))

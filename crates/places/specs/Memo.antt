@@ -110,9 +110,11 @@ module _ (W : Windows) (Z : Seats W) (limit : ℕ) (A : Tables) (sh : Shows W Z 
   shows-stay (suc s) h p m =
       let w = in-minus (A .held s) (A .ends (suc s)) p .0 m in
       let v = at-place (sh .held-is s (omega arith)) p (w .0) in
-      let n : ¬ (W .d (v .0) ≡ suc s) = λ e. present (member (A .ends (suc s)) p) (ap (member (A .ends (suc s))) (sym (v .2)) ∙ sh .ends-is (suc s) (omega arith) .from (v .0) (v .1) e) (w .1) in
+      let n : ¬ (W .d (v .0) ≡ suc s) = λ e. present (member (A .ends (suc s)) p) (ap (member (A .ends (suc s))) (sym (v .2))
+      ∙ sh .ends-is (suc s) (omega arith) .from (v .0) (v .1) e) (w .1) in
       let z = in-held W s (v .0) .0 (v .1) in
-      ap (member (A .held (suc s))) (sym (v .2)) ∙ sh .held-is (suc s) (omega arith) .from (v .0) (in-held W (suc s) (v .0) .1 (z .0, omega (arith, z .1), omega (arith, z .2))) tt
+      ap (member (A .held (suc s))) (sym (v .2))
+      ∙ sh .held-is (suc s) (omega arith) .from (v .0) (in-held W (suc s) (v .0) .1 (z .0, omega (arith, z .1), omega (arith, z .2))) tt
 
   shows-eight : (s : ℕ) → s < slots → Eight (A .held s)
   shows-eight s h p m = let v = sh .held-is s (omega arith) .bound p m in omega (arith, Z .low s (v .0) (v .1), v .2)
@@ -146,7 +148,8 @@ module _ (A : Tables) (base : ℕ → ℕ) (slots : ℕ) (R : Rows A base slots)
   eight-before (suc s) h p m = R .eight s (omega arith) p m
 
   -- the key is one of its slot's row
-  pub key-slot : (left s : ℕ) (done ran : Set) → 0 < left → Reached A slots left s done ran → (base s ≤ key base s done ran) × (key base s done ran < base (suc s))
+  pub key-slot : (left s : ℕ) (done ran : Set) → 0 < left → Reached A slots left s done ran → (base s ≤ key base s done ran)
+      × (key base s done ran < base (suc s))
   unfolding key
   key-slot left s done ran p z = omega (arith, number-le done ran (before A s) (z .of-slot) (z .included), R .row s (omega (arith, z .total)))
 
@@ -158,7 +161,8 @@ module _ (A : Tables) (base : ℕ → ℕ) (slots : ℕ) (R : Rows A base slots)
   rows-apart : (s s′ : ℕ) → s < s′ → s′ ≤ slots → base (suc s) ≤ base s′
   rows-apart s s′ l h = let e : s′ - suc s + suc s ≡ s′ = omega arith in rw e at (base-le (s′ - suc s) (suc s) (omega arith))
 
-  pub key-injective : (left s left′ s′ : ℕ) (d r e q : Set) → 0 < left → 0 < left′ → Reached A slots left s d r → Reached A slots left′ s′ e q → key base s d r ≡ key base s′ e q → Same left s left′ s′ d r e q
+  pub key-injective : (left s left′ s′ : ℕ) (d r e q : Set) → 0 < left → 0 < left′ → Reached A slots left s d r → Reached A slots left′ s′ e q → key base s d r
+      ≡ key base s′ e q → Same left s left′ s′ d r e q
   key-injective left s left′ s′ d r e q p p′ X Y h = go (decLt s s′) (decLt s′ s)
     where
       k-X : (base s ≤ key base s d r) × (key base s d r < base (suc s))
@@ -173,7 +177,8 @@ module _ (A : Tables) (base : ℕ → ℕ) (slots : ℕ) (R : Rows A base slots)
       same : s ≡ s′ → Same left s left′ s′ d r e q
       same z =
           let n : numberOf d r ≡ numberOf e q = unfold key in (let b : base s ≡ base s′ = ap base z in omega arith) in
-          let w = number-injective d r e q (small s d d (omega (arith, X .total)) (X .of-slot)) (small s′ e e (omega (arith, Y .total)) (Y .of-slot)) (X .included) (Y .included) n in
+          let w = number-injective d r e q (small s d d (omega (arith, X .total)) (X .of-slot)) (small s′ e e (omega (arith, Y .total)) (Y .of-slot))
+          (X .included) (Y .included) n in
           record { slot = z; slots-left = omega (arith, X .total, Y .total); done = w .0; ran = w .1 }
 
       go : Dec (s < s′) → Dec (s′ < s) → Same left s left′ s′ d r e q
@@ -189,11 +194,14 @@ pub tries-are-held : (A : Tables) (cap slots : ℕ) → TriesHeld A (triesAt A c
 tries-are-held A cap slots s h = tries-held A cap s
 
 -- the state after a slot with such a set
-pub reached-next : (A : Tables) (base : ℕ → ℕ) (slots : ℕ) → Rows A base slots → (k s : ℕ) (done ran S : Set) → Reached A slots (suc k) s done ran → Subset S (A .held s) → Reached A slots k (suc s) (doneAfter A s done S) S
+pub reached-next : (A : Tables) (base : ℕ → ℕ) (slots : ℕ) → Rows A base slots → (k s : ℕ) (done ran S : Set) → Reached A slots (suc k) s done ran
+    → Subset S (A .held s) → Reached A slots k (suc s) (doneAfter A s done S) S
 unfolding doneAfter carried Subset
 reached-next A base slots R k s done ran S z e = record {
   total = omega (arith, z .total);
-  of-slot = λ p m. ⊎-elim (λ a. let w = in-minus done (A .ends s) p .0 a in R .stay s (omega (arith, z .total)) p (in-minus (before A s) (A .ends s) p .1 (z .of-slot p (w .0), w .1))) (e p) (in-union (minus done (A .ends s)) S p .0 m);
+  of-slot = λ p m. ⊎-elim (λ a. let w = in-minus done (A .ends s) p .0 a in
+      R .stay s (omega (arith, z .total)) p (in-minus (before A s) (A .ends s) p .1 (z .of-slot p (w .0), w .1))) (e p)
+      (in-union (minus done (A .ends s)) S p .0 m);
   included = right-subset-union (minus done (A .ends s)) S;
 }
 
@@ -213,7 +221,8 @@ module _ (A : Tables) (base : ℕ → ℕ) (tries : Tries) (slots : ℕ) (rows :
   -- a bitmap with room for the keys of all slots, in which only states without a plan are marked
   pub record Sound (dead : List ℕ) : Type 0 where
     pub room : base slots ≤ 8 * length dead
-    pub no-plan : (left s : ℕ) (done ran : Set) → 0 < left → Reached A slots left s done ran → isMarked dead (key base s done ran) ≡ true → find A tries left s done ran ≡ noPlan
+    pub no-plan : (left s : ℕ) (done ran : Set) → 0 < left → Reached A slots left s done ran → isMarked dead (key base s done ran) ≡ true
+        → find A tries left s done ran ≡ noPlan
 
   -- an answer of the model with a bitmap that is the model's answer, and the bitmap sound
   pub record Agrees (e : Explored) (plan : Plan) : Type 0 where
@@ -224,29 +233,34 @@ module _ (A : Tables) (base : ℕ → ℕ) (tries : Tries) (slots : ℕ) (rows :
   last : (left s : ℕ) → 0 < left → left + s ≡ slots → base (suc s) ≤ base slots
   last left s p e = let z : slots - suc s + suc s ≡ slots = omega arith in rw z at (base-le A base slots rows (slots - suc s) (suc s) (omega arith))
 
-  key-room : (left s : ℕ) (done ran : Set) (dead : List ℕ) → 0 < left → Reached A slots left s done ran → base slots ≤ 8 * length dead → key base s done ran < 8 * length dead
+  key-room : (left s : ℕ) (done ran : Set) (dead : List ℕ) → 0 < left → Reached A slots left s done ran → base slots ≤ 8 * length dead
+      → key base s done ran < 8 * length dead
   key-room left s done ran dead p R h = omega (arith, key-slot A base slots rows left s done ran p R, last left s p (R .total))
 
   -- a state without a plan is marked
-  sound-mark : (left s : ℕ) (done ran : Set) (dead : List ℕ) → 0 < left → Reached A slots left s done ran → find A tries left s done ran ≡ noPlan → Sound dead → Sound (withMark dead (key base s done ran))
+  sound-mark : (left s : ℕ) (done ran : Set) (dead : List ℕ) → 0 < left → Reached A slots left s done ran → find A tries left s done ran ≡ noPlan → Sound dead
+      → Sound (withMark dead (key base s done ran))
   sound-mark left s done ran dead p R f S = record {
     room = rw (length-withMark dead (key base s done ran)) (S .room);
     no-plan = λ left′ s′ d r q B m. go left′ s′ d r q B (or-true-iff (isMarked dead (key base s′ d r)) (eqb (key base s′ d r) (key base s done ran)) .0
         (sym (marked-withMark dead (key base s done ran) (key base s′ d r) (key-room left s done ran dead p R (S .room))) ∙ m));
   }
     where
-      go : (left′ s′ : ℕ) (d r : Set) → 0 < left′ → Reached A slots left′ s′ d r → (isMarked dead (key base s′ d r) ≡ true) ⊎ (eqb (key base s′ d r) (key base s done ran) ≡ true) → find A tries left′ s′ d r ≡ noPlan
+      go : (left′ s′ : ℕ) (d r : Set) → 0 < left′ → Reached A slots left′ s′ d r → (isMarked dead (key base s′ d r) ≡ true)
+          ⊎ (eqb (key base s′ d r) (key base s done ran) ≡ true) → find A tries left′ s′ d r ≡ noPlan
       go left′ s′ d r q B (inl m) = S .no-plan left′ s′ d r q B m
       go left′ s′ d r q B (inr m) =
           one-state (λ n z x y. find A tries n z x y ≡ noPlan) left′ s′ left s d r done ran
           (key-injective A base slots rows left′ s′ left s d r done ran q p B R (eqb-true (key base s′ d r) (key base s done ran) m)) f
 
   -- the tries, where each is right
-  all-agree : (goes : Set → List ℕ → Explored) (finds : Set → Plan) (Ss : List Set) → ((S : Set) (dead : List ℕ) → List·Memᴰ S Ss → Sound dead → Agrees (goes S dead) (finds S))
+  all-agree : (goes : Set → List ℕ → Explored) (finds : Set → Plan) (Ss : List Set)
+      → ((S : Set) (dead : List ℕ) → List·Memᴰ S Ss → Sound dead → Agrees (goes S dead) (finds S))
       → (dead : List ℕ) → Sound dead → Agrees (exploreAll goes Ss dead) (tryAll finds Ss)
   unfolding exploreAll tryAll choose hit missThen
   all-agree goes finds [] h dead S = record { same = refl; sound = S }
-  all-agree goes finds (X ∷ Ss) h dead S = rw (← (r .same)) (pick (e .plan .ok) (all-agree goes finds Ss (λ Y b m. h Y b (List·Memᴰ·tail m)) (e .dead) (r .sound)))
+  all-agree goes finds (X ∷ Ss) h dead S = rw (← (r .same))
+      (pick (e .plan .ok) (all-agree goes finds Ss (λ Y b m. h Y b (List·Memᴰ·tail m)) (e .dead) (r .sound)))
     where
       e : Explored
       e = goes X dead
@@ -254,18 +268,21 @@ module _ (A : Tables) (base : ℕ → ℕ) (tries : Tries) (slots : ℕ) (rows :
       r : Agrees e (finds X)
       r = h X dead (List·Memᴰ·head refl) S
 
-      pick : (o : Bool) → Agrees (exploreAll goes Ss (e .dead)) (tryAll finds Ss) → Agrees (choose o (hit X e) (missThen e (exploreAll goes Ss (e .dead)))) (choose o (slotThen X (e .plan)) (tryAll finds Ss))
+      pick : (o : Bool) → Agrees (exploreAll goes Ss (e .dead)) (tryAll finds Ss)
+          → Agrees (choose o (hit X e) (missThen e (exploreAll goes Ss (e .dead)))) (choose o (slotThen X (e .plan)) (tryAll finds Ss))
       pick true t = record { same = refl; sound = r .sound }
       pick false t = record { same = t .same; sound = t .sound }
 
   -- the model with a sound bitmap gives what the model without gives, and leaves a sound bitmap
-  pub explored-is-find : (left s : ℕ) (done ran : Set) (dead : List ℕ) → Reached A slots left s done ran → Sound dead → Agrees (explored A base tries left s done ran dead) (find A tries left s done ran)
+  pub explored-is-find : (left s : ℕ) (done ran : Set) (dead : List ℕ) → Reached A slots left s done ran → Sound dead
+      → Agrees (explored A base tries left s done ran dead) (find A tries left s done ran)
   unfolding explored find choose opening
   explored-is-find zero s done ran dead R S = record { same = refl; sound = S }
   explored-is-find (suc k) s done ran dead R S =
       cases (isSubset (A .due s) done) refl (isMarked dead (key base s done ran)) refl
       (all-agree goes (λ X. find A tries k (suc s) (doneAfter A s done X) X) (tries s done ran)
-      (λ X b m T. explored-is-find k (suc s) (doneAfter A s done X) X b (reached-next A base slots rows k s done ran X R (small s (omega (arith, R .total)) done ran X m)) T) dead S)
+      (λ X b m T. explored-is-find k (suc s) (doneAfter A s done X) X b
+      (reached-next A base slots rows k s done ran X R (small s (omega (arith, R .total)) done ran X m)) T) dead S)
     where
       goes : Set → List ℕ → Explored
       goes X b = explored A base tries k (suc s) (doneAfter A s done X) X b
@@ -298,9 +315,12 @@ module _ (A : Tables) (base : ℕ → ℕ) (tries : Tries) (slots : ℕ) (rows :
   sound-cleared : (n : ℕ) (dead : List ℕ) → n ≤ length dead → base slots ≤ 8 * n → Sound (cleared n dead)
   sound-cleared n dead l h = record {
     room = rw (length-cleared n dead l) (omega arith);
-    no-plan = λ left s done ran p R m. absurd (false≢true (sym (marked-cleared n dead (key base s done ran) (omega (arith, key-slot A base slots rows left s done ran p R, last left s p (R .total)))) ∙ m));
+    no-plan = λ left s done ran p R m. absurd
+        (false≢true (sym (marked-cleared n dead (key base s done ran) (omega (arith, key-slot A base slots rows left s done ran p R, last left s p (R .total))))
+        ∙ m));
   }
 
   -- the search of one length gives its plan, whatever the bitmap held before it was cleared
-  pub cleared-is-find : (n : ℕ) (dead : List ℕ) → n ≤ length dead → base slots ≤ 8 * n → explored A base tries slots 0 empty empty (cleared n dead) .plan ≡ find A tries slots 0 empty empty
+  pub cleared-is-find : (n : ℕ) (dead : List ℕ) → n ≤ length dead → base slots ≤ 8 * n → explored A base tries slots 0 empty empty (cleared n dead) .plan
+      ≡ find A tries slots 0 empty empty
   cleared-is-find n dead l h = explored-is-find slots 0 empty empty (cleared n dead) reached-start (sound-cleared n dead l h) .same

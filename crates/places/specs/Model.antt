@@ -1,4 +1,4 @@
--- The search over places for a plan of one length, without a memo, and a plan read as a start list. The state before slot s is `done`
+-- The search over places for a plan of one length, without marks, and a plan read as a start list. The state before slot s is `done`
 -- and `ran`, places of the slot before: done by its end, and ran in it. Which sets a slot tries is a parameter. Assumes nothing.
 use mathlib.Core.Bool.{Bool, true, false}
 use mathlib.Core.List.{List, [], _∷_}

@@ -53,12 +53,14 @@ module _ (A : Tables) (s : ℕ) (done ran : Set) where
   -- a forced one has none
   near-none : (p k : ℕ) → isForced done ran (A .prev s p) ≡ true → member (near p) k ≡ true → ⊥
   unfolding isForced nearAt
-  near-none p k e = empty-says (intersection (A .prev s p) ran) .0 (and-eq-true-iff (isSubset (A .prev s p) done) (isEmpty (intersection (A .prev s p) ran)) .0 e .1) k
+  near-none p k e = empty-says (intersection (A .prev s p) ran) .0
+      (and-eq-true-iff (isSubset (A .prev s p) done) (isEmpty (intersection (A .prev s p) ran)) .0 e .1) k
 
   in-near : (p k l : ℕ) → near p ≡ one k → (member (near p) l ≡ true) ↔ (l ≡ k)
   in-near p k l e = rw e (in-one k l)
 
-  pub ties-at : ((p : ℕ) → member ran p ≡ true → p < 64) → Ties (candidatesAt A s done ran .forced) (candidatesAt A s done ran .tied) (candidatesAt A s done ran .tying) (nearAt A s ran)
+  pub ties-at : ((p : ℕ) → member ran p ≡ true → p < 64)
+      → Ties (candidatesAt A s done ran .forced) (candidatesAt A s done ran .tied) (candidatesAt A s done ran .tying) (nearAt A s ran)
   unfolding nearAt
   ties-at low = record {
     near-of = λ p m.
@@ -82,7 +84,8 @@ module _ (A : Tables) (s : ℕ) (done ran : Set) where
 
   -- the row as a set is all candidates
   pub row-able : placesOf (rowAt A s (candidatesAt A s done ran)) ≡ ableOf (candidatesAt A s done ran)
-  row-able = subset-antisym (placesOf row) (ableOf c) (unfold Subset in λ p m. in-row-at A s c p .0 (in-places row p .0 m) .1) (unfold Subset in λ p m. in-places row p .1 (in-row-at A s c p .1 (able-low p m, m)))
+  row-able = subset-antisym (placesOf row) (ableOf c) (unfold Subset in λ p m. in-row-at A s c p .0 (in-places row p .0 m) .1) (unfold Subset in
+      λ p m. in-places row p .1 (in-row-at A s c p .1 (able-low p m, m)))
 
   d : Distinct (rowAt A s (candidatesAt A s done ran))
   unfolding rowAt
@@ -96,12 +99,14 @@ module _ (A : Tables) (s : ℕ) (done ran : Set) where
       arith,
       fit-most (c .forced) (c .tied) (c .tying) near (ties-at low) row d (λ p m. in-able p .0 (in-row-at A s c p .0 m .1)) loose,
       fit-least (c .forced) (c .tied) (c .tying) near (ties-at low) row d (λ p m. in-row-at A s c p .1 (forced-law p .0 m .0, in-able p .1 (inl m)))
-          (λ k m. let w = ties-at low .taker-of k m in (w .0, in-row-at A s c (w .0) .1 (tied-law (w .0) .0 (w .1) .0, in-able (w .0) .1 (inr (w .1))), w .1, w .2)),
+          (λ k m. let w = ties-at low .taker-of k m in
+          (w .0, in-row-at A s c (w .0) .1 (tied-law (w .0) .0 (w .1) .0, in-able (w .0) .1 (inr (w .1))), w .1, w .2)),
     )
 
     -- and where they are within the cap, all of them are the one set tried
     pub one-set : (cap : ℕ) → fitOf (candidatesAt A s done ran) ≤ cap → triesAt A cap s done ran ≡ ableOf (candidatesAt A s done ran) ∷ []
     unfolding triesAt
     one-set cap h =
-        let e : mostOf cap c ≡ length row = sym (most-is cap c .2 (length row) (omega (arith, row-fits)) (omega (arith, row-fits)) (inr (omega (arith, row-fits)))) in
+        let e : mostOf cap c ≡ length row = sym
+        (most-is cap c .2 (length row) (omega (arith, row-fits)) (omega (arith, row-fits)) (inr (omega (arith, row-fits)))) in
         ap (λ (m : ℕ). triedBelow near row m (2 ^ length row)) e ∙ whole-row near row d loose ∙ ap (λ (S : Set). S ∷ []) row-able

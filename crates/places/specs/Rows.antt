@@ -88,12 +88,14 @@ module _ (who : ℕ → ℕ) where
   in-insert p [] q = (λ m. List·Memᴰ·cases-cons m, λ o. ⊎-elim (λ e. List·Memᴰ·head e) (λ m. absurd (List·Memᴰ·not-nil m)) o)
   in-insert p (x ∷ row) q = go (in-insert p row q)
     where
-      go : List·Memᴰ q (insert who p row) ↔ ((q ≡ p) ⊎ List·Memᴰ q row) → List·Memᴰ q (choose (ltb (who p) (who x)) (p ∷ x ∷ row) (x ∷ insert who p row)) ↔ ((q ≡ p) ⊎ List·Memᴰ q (x ∷ row))
+      go : List·Memᴰ q (insert who p row) ↔ ((q ≡ p) ⊎ List·Memᴰ q row) → List·Memᴰ q (choose (ltb (who p) (who x)) (p ∷ x ∷ row) (x ∷ insert who p row))
+          ↔ ((q ≡ p) ⊎ List·Memᴰ q (x ∷ row))
       go r = by-choice (λ l. List·Memᴰ q l ↔ ((q ≡ p) ⊎ List·Memᴰ q (x ∷ row))) (ltb (who p) (who x))
           (λ t. (λ m. List·Memᴰ·cases-cons m, λ o. ⊎-elim (λ e. List·Memᴰ·head e) (λ m. List·Memᴰ·tail m) o))
           (λ n. (
             λ m. ⊎-elim (λ e. inr (List·Memᴰ·head e)) (λ k. ⊎-elim inl (λ w. inr (List·Memᴰ·tail w)) (r .0 k)) (List·Memᴰ·cases-cons m),
-            λ o. ⊎-elim (λ e. List·Memᴰ·tail (r .1 (inl e))) (λ m. ⊎-elim (λ e. List·Memᴰ·head e) (λ w. List·Memᴰ·tail (r .1 (inr w))) (List·Memᴰ·cases-cons m)) o,
+            λ o. ⊎-elim (λ e. List·Memᴰ·tail (r .1 (inl e))) (λ m. ⊎-elim (λ e. List·Memᴰ·head e) (λ w. List·Memᴰ·tail (r .1 (inr w))) (List·Memᴰ·cases-cons m))
+                o,
           ))
 
   insert-sorted : (p : ℕ) (row : List ℕ) → Sorted who row → ((q : ℕ) → List·Memᴰ q row → who q ≡ who p → ⊥) → Sorted who (insert who p row)
@@ -115,7 +117,8 @@ module _ (who : ℕ → ℕ) where
     λ o. r .1 (⊎-elim (λ a. inl (i .1 (inr a))) (λ a. ⊎-elim (λ e. inl (i .1 (inl e))) inr (List·Memᴰ·cases-cons a)) o),
   )
 
-  into-sorted : (In : ℕ → Type 0) → ((p q : ℕ) → In p → In q → who p ≡ who q → p ≡ q) → (ps row : List ℕ) → ((p : ℕ) → List·Memᴰ p ps → In p) → ((p : ℕ) → List·Memᴰ p row → In p)
+  into-sorted : (In : ℕ → Type 0) → ((p q : ℕ) → In p → In q → who p ≡ who q → p ≡ q) → (ps row : List ℕ) → ((p : ℕ) → List·Memᴰ p ps → In p)
+      → ((p : ℕ) → List·Memᴰ p row → In p)
       → Distinct ps → ((p : ℕ) → List·Memᴰ p ps → List·Memᴰ p row → ⊥) → Sorted who row → Sorted who (sortInto who row ps)
   unfolding sortInto
   into-sorted In inj [] row a b d x s = s
@@ -193,7 +196,8 @@ in-chosen (q ∷ row) x p = go (member x (length row)) refl (in-chosen row x p)
     back zero b s e m = let z : b ≡ length row = omega arith in inl (sym e, rw z at m)
     back (suc r) b s e m = inr record { rank = r; bit = b; sum = omega arith; place = e; is-in = m }
 
-    go : (b : Bool) → member x (length row) ≡ b → List·Memᴰ p (chosen row x) ↔ Pick row x p → List·Memᴰ p (choose b (q ∷ chosen row x) (chosen row x)) ↔ Pick (q ∷ row) x p
+    go : (b : Bool) → member x (length row) ≡ b → List·Memᴰ p (chosen row x) ↔ Pick row x p → List·Memᴰ p (choose b (q ∷ chosen row x) (chosen row x))
+        ↔ Pick (q ∷ row) x p
     go true e r = (
       λ m. ⊎-elim (first e) (λ k. later (r .0 k)) (List·Memᴰ·cases-cons m),
       λ k. ⊎-elim (λ w. List·Memᴰ·head (w .0)) (λ w. List·Memᴰ·tail (r .1 w)) (back (k .rank) (k .bit) (k .sum) (k .place) (k .is-in)),
@@ -242,7 +246,8 @@ unfolding chosen choose
 chosen-all [] x e = (λ k l. absurd (omega arith), refl)
 chosen-all (q ∷ row) x e = go (member x (length row)) refl e (chosen-all row x)
   where
-    bits : ((k : ℕ) → k < length row → member x k ≡ true) → member x (length row) ≡ true → (k : ℕ) → k < suc (length row) → Dec (k ≡ length row) → member x k ≡ true
+    bits : ((k : ℕ) → k < length row → member x k ≡ true) → member x (length row) ≡ true → (k : ℕ) → k < suc (length row) → Dec (k ≡ length row) → member x k
+        ≡ true
     bits f m k l (yes z) = rw z m
     bits f m k l (no z) = f k (omega arith)
 
@@ -262,7 +267,8 @@ unfolding numberFor with
 number-for-low t [] k m = absurd (present (member empty k) m (member-empty k))
 number-for-low t (p ∷ row) k m = go (number-for-low t row k) m
   where
-    go : (member (numberFor t row) k ≡ true → k < length row) → member (choose (t p) (union (numberFor t row) (one (length row))) (numberFor t row)) k ≡ true → k < suc (length row)
+    go : (member (numberFor t row) k ≡ true → k < length row) → member (choose (t p) (union (numberFor t row) (one (length row))) (numberFor t row)) k ≡ true
+        → k < suc (length row)
     go r = by-choice (λ S. member S k ≡ true → k < suc (length row)) (t p)
         (λ u m. ⊎-elim (λ a. omega (arith, r a)) (λ e. omega (arith, in-one (length row) k .0 e)) (in-union (numberFor t row) (one (length row)) k .0 m))
         (λ u m. omega (arith, r m))
@@ -293,7 +299,8 @@ chosen-number t (p ∷ row) = go (t p) refl (chosen-number t row)
 
     go : (b : Bool) → t p ≡ b → chosen row (numberFor t row) ≡ filter t row
         → choose (member (choose b (union (numberFor t row) (one (length row))) (numberFor t row)) (length row))
-        (p ∷ chosen row (choose b (union (numberFor t row) (one (length row))) (numberFor t row))) (chosen row (choose b (union (numberFor t row) (one (length row))) (numberFor t row)))
+        (p ∷ chosen row (choose b (union (numberFor t row) (one (length row))) (numberFor t row)))
+        (chosen row (choose b (union (numberFor t row) (one (length row))) (numberFor t row)))
         ≡ choose b (p ∷ filter t row) (filter t row)
     go true e r = rw (high, chosen-same row (union (numberFor t row) (one (length row))) (numberFor t row) same, r) refl
     go false e r = rw (low, r) refl
@@ -327,25 +334,30 @@ pub fitting-says : (near : ℕ → Set) (ps : List ℕ) (used : Set) → Distinc
     → (fitting near used ps ≡ true) ↔ (((p k : ℕ) → List·Memᴰ p ps → member used k ≡ true → member (near p) k ≡ true → ⊥) × Loose near ps)
 unfolding fitting
 fitting-says near [] used d = (λ e. (λ p k m. absurd (List·Memᴰ·not-nil m), λ p q k m. absurd (List·Memᴰ·not-nil m)), λ w. refl)
-fitting-says near (x ∷ ps) used d = go (fitting-says near ps (union used (near x)) (d .1)) (and-eq-true-iff (isEmpty (intersection used (near x))) (fitting near (union used (near x)) ps)) (empty-says (intersection used (near x)))
+fitting-says near (x ∷ ps) used d = go (fitting-says near ps (union used (near x)) (d .1))
+    (and-eq-true-iff (isEmpty (intersection used (near x))) (fitting near (union used (near x)) ps)) (empty-says (intersection used (near x)))
   where
     Out : Set → List ℕ → Type 0
     Out U qs = (p k : ℕ) → List·Memᴰ p qs → member U k ≡ true → member (near p) k ≡ true → ⊥
 
-    go : (fitting near (union used (near x)) ps ≡ true) ↔ (((p k : ℕ) → List·Memᴰ p ps → member (union used (near x)) k ≡ true → member (near p) k ≡ true → ⊥) × Loose near ps)
-        → ((isEmpty (intersection used (near x)) && fitting near (union used (near x)) ps) ≡ true) ↔ ((isEmpty (intersection used (near x)) ≡ true) × (fitting near (union used (near x)) ps ≡ true))
+    go : (fitting near (union used (near x)) ps ≡ true)
+        ↔ (((p k : ℕ) → List·Memᴰ p ps → member (union used (near x)) k ≡ true → member (near p) k ≡ true → ⊥) × Loose near ps)
+        → ((isEmpty (intersection used (near x)) && fitting near (union used (near x)) ps) ≡ true)
+        ↔ ((isEmpty (intersection used (near x)) ≡ true) × (fitting near (union used (near x)) ps ≡ true))
         → (isEmpty (intersection used (near x)) ≡ true) ↔ ((k : ℕ) → member (intersection used (near x)) k ≡ true → ⊥)
         → ((isEmpty (intersection used (near x)) && fitting near (union used (near x)) ps) ≡ true)
         ↔ (((p k : ℕ) → List·Memᴰ p (x ∷ ps) → member used k ≡ true → member (near p) k ≡ true → ⊥) × Loose near (x ∷ ps))
     go r a e = (
       λ h. let w = a .0 h in let v = r .0 (w .1) in (
-        λ p k m u n. ⊎-elim (λ q. e .0 (w .0) k (in-intersection used (near x) k .1 (u, rw q at n))) (λ q. v .0 p k q (in-union used (near x) k .1 (inl u)) n) (List·Memᴰ·cases-cons m),
+        λ p k m u n. ⊎-elim (λ q. e .0 (w .0) k (in-intersection used (near x) k .1 (u, rw q at n))) (λ q. v .0 p k q (in-union used (near x) k .1 (inl u)) n)
+            (List·Memᴰ·cases-cons m),
         λ p q k m l n o. two v p q k (List·Memᴰ·cases-cons m) (List·Memᴰ·cases-cons l) n o,
       ),
       λ w. a .1 (
         e .1 (λ k m. let z = in-intersection used (near x) k .0 m in w .0 x k (List·Memᴰ·head refl) (z .0) (z .1)),
         r .1 (
-          λ p k m u n. ⊎-elim (λ y. w .0 p k (List·Memᴰ·tail m) y n) (λ y. d .0 (rw (w .1 p x k (List·Memᴰ·tail m) (List·Memᴰ·head refl) n y) at m)) (in-union used (near x) k .0 u),
+          λ p k m u n. ⊎-elim (λ y. w .0 p k (List·Memᴰ·tail m) y n) (λ y. d .0 (rw (w .1 p x k (List·Memᴰ·tail m) (List·Memᴰ·head refl) n y) at m))
+              (in-union used (near x) k .0 u),
           λ p q k m l. w .1 p q k (List·Memᴰ·tail m) (List·Memᴰ·tail l),
         ),
       ),
@@ -360,7 +372,8 @@ fitting-says near (x ∷ ps) used d = go (fitting-says near ps (union used (near
 
 -- from nothing used
 pub fitting-loose : (near : ℕ → Set) (ps : List ℕ) → Distinct ps → (fitting near empty ps ≡ true) ↔ Loose near ps
-fitting-loose near ps d = let w = fitting-says near ps empty d in (λ e. w .0 e .1, λ l. w .1 (λ p k m u. absurd (present (member empty k) u (member-empty k)), l))
+fitting-loose near ps d = let w = fitting-says near ps empty d in
+    (λ e. w .0 e .1, λ l. w .1 (λ p k m u. absurd (present (member empty k) u (member-empty k)), l))
 
 -- ---- the sets tried
 
@@ -402,7 +415,8 @@ module _ (near : ℕ → Set) (row : List ℕ) (most : ℕ) where
       more : Number near row most b S → Number near row most (suc b) S
       more r = record { number = r .number; low = omega (arith, r .low); is-allowed = r .is-allowed; set-is = r .set-is }
 
-      go : (a : Bool) → isTry near most (picks row b) ≡ a → List·Memᴰ S (choose a (placesOf (picks row b) ∷ triedBelow near row most b) (triedBelow near row most b))
+      go : (a : Bool) → isTry near most (picks row b) ≡ a
+          → List·Memᴰ S (choose a (placesOf (picks row b) ∷ triedBelow near row most b) (triedBelow near row most b))
           → (List·Memᴰ S (triedBelow near row most b) → Number near row most b S) → Number near row most (suc b) S
       go true e w r = ⊎-elim (λ q. record { number = b; low = omega arith; is-allowed = e; set-is = q }) (λ k. more (r k)) (List·Memᴰ·cases-cons w)
       go false e w r = more (r w)
@@ -421,15 +435,18 @@ module _ (near : ℕ → Set) (row : List ℕ) (most : ℕ) where
 
   -- they are ordered, if of two allowed numbers the greater one is preferred
   pub tried-ordered : (f : Set → List ℕ) (b : ℕ)
-      → ((m k : ℕ) → k < m → m < b → isTry near most (picks row m) ≡ true → isTry near most (picks row k) ≡ true → Sooner (f (placesOf (picks row m))) (f (placesOf (picks row k))))
+      → ((m k : ℕ) → k < m → m < b → isTry near most (picks row m) ≡ true → isTry near most (picks row k) ≡ true
+      → Sooner (f (placesOf (picks row m))) (f (placesOf (picks row k))))
       → Ordered (map f (triedBelow near row most b))
   unfolding triedBelow choose
   tried-ordered f zero h = tt
   tried-ordered f (suc b) h = go (isTry near most (picks row b)) refl (tried-ordered f b (λ m k l u. h m k l (omega arith)))
     where
-      go : (a : Bool) → isTry near most (picks row b) ≡ a → Ordered (map f (triedBelow near row most b)) → Ordered (map f (choose a (placesOf (picks row b) ∷ triedBelow near row most b) (triedBelow near row most b)))
+      go : (a : Bool) → isTry near most (picks row b) ≡ a → Ordered (map f (triedBelow near row most b))
+          → Ordered (map f (choose a (placesOf (picks row b) ∷ triedBelow near row most b) (triedBelow near row most b)))
       go true e r = (
-        map-mem⁻¹ (λ R. Sooner (f (placesOf (picks row b))) R) f (triedBelow near row most b) (λ S w. let k = tried-number b S w in rw (k .set-is) (h b (k .number) (k .low) (omega arith) e (k .is-allowed))),
+        map-mem⁻¹ (λ R. Sooner (f (placesOf (picks row b))) R) f (triedBelow near row most b) (λ S w. let k = tried-number b S w in
+            rw (k .set-is) (h b (k .number) (k .low) (omega arith) e (k .is-allowed))),
         r,
       )
       go false e r = r
@@ -448,14 +465,17 @@ module _ (near : ℕ → Set) (row : List ℕ) (most : ℕ) where
   none-below zero f = refl
   none-below (suc b) f = rw (absent (isTry near most (picks row b)) (f b (omega arith)), none-below b (λ x l. f x (omega arith))) refl
 
-  sole-below : (n b : ℕ) → n < b → isTry near most (picks row n) ≡ true → ((x : ℕ) → x < b → isTry near most (picks row x) ≡ true → x ≡ n) → triedBelow near row most b ≡ placesOf (picks row n) ∷ []
+  sole-below : (n b : ℕ) → n < b → isTry near most (picks row n) ≡ true → ((x : ℕ) → x < b → isTry near most (picks row x) ≡ true → x ≡ n)
+      → triedBelow near row most b ≡ placesOf (picks row n) ∷ []
   unfolding triedBelow choose
   sole-below n zero l e f = absurd (omega arith)
   sole-below n (suc b) l e f = go (ℕ-discrete n b) (sole-below n b) (none-below b)
     where
-      go : Dec (n ≡ b) → (n < b → isTry near most (picks row n) ≡ true → ((x : ℕ) → x < b → isTry near most (picks row x) ≡ true → x ≡ n) → triedBelow near row most b ≡ placesOf (picks row n) ∷ [])
+      go : Dec (n ≡ b) → (n < b → isTry near most (picks row n) ≡ true → ((x : ℕ) → x < b → isTry near most (picks row x) ≡ true → x ≡ n)
+          → triedBelow near row most b ≡ placesOf (picks row n) ∷ [])
           → (((x : ℕ) → x < b → isTry near most (picks row x) ≡ true → ⊥) → triedBelow near row most b ≡ [])
-          → choose (isTry near most (picks row b)) (placesOf (picks row b) ∷ triedBelow near row most b) (triedBelow near row most b) ≡ placesOf (picks row n) ∷ []
+          → choose (isTry near most (picks row b)) (placesOf (picks row b) ∷ triedBelow near row most b) (triedBelow near row most b) ≡ placesOf (picks row n)
+          ∷ []
       go (yes z) r s =
           let t : isTry near most (picks row b) ≡ true = ap (λ (k : ℕ). isTry near most (picks row k)) (sym z) ∙ e in
           rw (t, s (λ x k p. omega (arith, f x (omega arith) p)), z) refl
@@ -463,7 +483,8 @@ module _ (near : ℕ → Set) (row : List ℕ) (most : ℕ) where
 
 -- where all the row fits, it is the only set
 pub whole-row : (near : ℕ → Set) (row : List ℕ) → Distinct row → Loose near row → triedBelow near row (length row) (2 ^ length row) ≡ placesOf row ∷ []
-whole-row near row d loose = sole-below near row (length row) n (2 ^ length row) (number-for-lt (λ p. true) row) (rw full (is-try near (length row) row d .1 (refl, loose))) only ∙ ap (λ (l : List ℕ). placesOf l ∷ []) full
+whole-row near row d loose = sole-below near row (length row) n (2 ^ length row) (number-for-lt (λ p. true) row)
+    (rw full (is-try near (length row) row d .1 (refl, loose))) only ∙ ap (λ (l : List ℕ). placesOf l ∷ []) full
   where
     n : ℕ
     n = numberFor (λ p. true) row .bits
@@ -478,6 +499,7 @@ whole-row near row d loose = sole-below near row (length row) n (2 ^ length row)
     only x l t = ap (λ (S : Set). S .bits) (set-ext (record { bits = x }) (record { bits = n }) (λ k. same k (decLt k (length row))))
       where
         same : (k : ℕ) → Dec (k < length row) → member (record { bits = x }) k ≡ member (record { bits = n }) k
-        same k (yes u) = bits x (is-try near (length row) (picks row x) (chosen-distinct row (record { bits = x }) d) .0 t .0) k u ∙ sym (bits n (ap length full) k u)
+        same k (yes u) = bits x (is-try near (length row) (picks row x) (chosen-distinct row (record { bits = x }) d) .0 t .0) k u
+            ∙ sym (bits n (ap length full) k u)
         same k (no u) = absent (member (record { bits = x }) k) (λ m. u (bit-low (record { bits = x }) (length row) k l m))
             ∙ sym (absent (member (record { bits = n }) k) (λ m. u (bit-low (record { bits = n }) (length row) k (number-for-lt (λ p. true) row) m)))

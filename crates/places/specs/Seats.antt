@@ -59,7 +59,8 @@ on-minus {π} {H} {S} {R} a b = record {
 }
 
 -- (of the second only the places of H matter)
-pub on-intersection : {π : ℕ → ℕ} {H : List ℕ} {S : Set} {P Q : ℕ → Type 0} (R : Set) → On π H S P → ((i : ℕ) → List·Memᴰ i H → (member R (π i) ≡ true) ↔ Q i) → On π H (intersection S R) (λ i. P i × Q i)
+pub on-intersection : {π : ℕ → ℕ} {H : List ℕ} {S : Set} {P Q : ℕ → Type 0} (R : Set) → On π H S P → ((i : ℕ) → List·Memᴰ i H → (member R (π i) ≡ true) ↔ Q i)
+    → On π H (intersection S R) (λ i. P i × Q i)
 on-intersection {π} {H} {S} R a b = record {
   to = λ i h m. let w = in-intersection S R (π i) .0 m in (a .to i h (w .0), b i h .0 (w .1));
   from = λ i h p. in-intersection S R (π i) .1 (a .from i h (p .0), b i h .1 (p .1));
@@ -81,7 +82,8 @@ subset-of {R = R} a b f p m = let w = at-place a p m in ap (member R) (sym (w .2
 pub on-ext : {π : ℕ → ℕ} {H : List ℕ} {S R : Set} {P : ℕ → Type 0} → On π H S P → On π H R P → S ≡ R
 on-ext {S = S} {R = R} a b = subset-antisym S R (subset-of a b (λ i h p. p)) (subset-of b a (λ i h p. p))
 
-pub subset-on : {π : ℕ → ℕ} {H : List ℕ} {S R : Set} {P Q : ℕ → Type 0} → On π H S P → On π H R Q → (isSubset S R ≡ true) ↔ ((i : ℕ) → List·Memᴰ i H → P i → Q i)
+pub subset-on : {π : ℕ → ℕ} {H : List ℕ} {S R : Set} {P Q : ℕ → Type 0} → On π H S P → On π H R Q → (isSubset S R ≡ true)
+    ↔ ((i : ℕ) → List·Memᴰ i H → P i → Q i)
 unfolding Subset
 subset-on {π} {H} {S} {R} a b = (λ h i l p. b .to i l (is-subset S R .0 h (π i) (a .from i l p)), λ f. is-subset S R .1 (subset-of a b f))
 
@@ -132,8 +134,10 @@ in-seats π p (x ∷ H) q = go (in-seats π p H q)
         → (member (choose (p x) (union (seatsOf π p H) (one (π x))) (seatsOf π p H)) q ≡ true) ↔ ((i : ℕ) × List·Memᴰ i (x ∷ H) × (π i ≡ q) × T (p i))
     go r = by-choice (λ S. (member S q ≡ true) ↔ ((i : ℕ) × List·Memᴰ i (x ∷ H) × (π i ≡ q) × T (p i))) (p x)
         (λ t. (
-          λ m. ⊎-elim (λ a. let w = r .0 a in (w .0, List·Memᴰ·tail (w .1), w .2, w .3)) (λ e. (x, List·Memᴰ·head refl, sym (in-one (π x) q .0 e), t)) (in-union (seatsOf π p H) (one (π x)) q .0 m),
-          λ w. in-union (seatsOf π p H) (one (π x)) q .1 (⊎-elim (λ e. inr (in-one (π x) q .1 (sym (w .2) ∙ ap π e))) (λ k. inl (r .1 (w .0, k, w .2, w .3))) (List·Memᴰ·cases-cons (w .1))),
+          λ m. ⊎-elim (λ a. let w = r .0 a in (w .0, List·Memᴰ·tail (w .1), w .2, w .3)) (λ e. (x, List·Memᴰ·head refl, sym (in-one (π x) q .0 e), t))
+              (in-union (seatsOf π p H) (one (π x)) q .0 m),
+          λ w. in-union (seatsOf π p H) (one (π x)) q .1
+              (⊎-elim (λ e. inr (in-one (π x) q .1 (sym (w .2) ∙ ap π e))) (λ k. inl (r .1 (w .0, k, w .2, w .3))) (List·Memᴰ·cases-cons (w .1))),
         ))
         (λ n. (
           λ m. let w = r .0 m in (w .0, List·Memᴰ·tail (w .1), w .2, w .3),

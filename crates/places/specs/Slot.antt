@@ -90,11 +90,13 @@ forced-not-tied done last givers h = let w = and-eq-true-iff (isSubset givers do
 
 module _ (done last : Set) where
   -- what one more job adds to each of the three sets
-  sort-forced : (i : ℕ) (g : Set) (c : Candidates) (x : ℕ) → member (sortJob done last i g c .forced) x ≡ (member (c .forced) x || (isForced done last g && eqb x i))
+  sort-forced : (i : ℕ) (g : Set) (c : Candidates) (x : ℕ) → member (sortJob done last i g c .forced) x
+      ≡ (member (c .forced) x || (isForced done last g && eqb x i))
   unfolding sortJob choose
   sort-forced i g c x = go (isForced done last g) refl (isTied done last g) refl
     where
-      go : (f : Bool) → isForced done last g ≡ f → (t : Bool) → isTied done last g ≡ t → member (sortJob done last i g c .forced) x ≡ (member (c .forced) x || (f && eqb x i))
+      go : (f : Bool) → isForced done last g ≡ f → (t : Bool) → isTied done last g ≡ t → member (sortJob done last i g c .forced) x
+          ≡ (member (c .forced) x || (f && eqb x i))
       go true e t q = rw (e) (member-with (c .forced) i x)
       go false e true q = rw (e, q, or-false)
       go false e false q = rw (e, q, or-false)
@@ -103,13 +105,15 @@ module _ (done last : Set) where
   unfolding sortJob choose
   sort-tied i g c x = go (isForced done last g) refl (isTied done last g) refl
     where
-      go : (f : Bool) → isForced done last g ≡ f → (t : Bool) → isTied done last g ≡ t → member (sortJob done last i g c .tied) x ≡ (member (c .tied) x || (t && eqb x i))
+      go : (f : Bool) → isForced done last g ≡ f → (t : Bool) → isTied done last g ≡ t → member (sortJob done last i g c .tied) x
+          ≡ (member (c .tied) x || (t && eqb x i))
       go true e true q = absurd (false≢true (sym (forced-not-tied done last g e) ∙ q))
       go true e false q = rw (e, or-false)
       go false e true q = rw (e, q) (member-with (c .tied) i x)
       go false e false q = rw (e, q, or-false)
 
-  sort-tying : (i : ℕ) (g : Set) (c : Candidates) (x : ℕ) → member (sortJob done last i g c .tying) x ≡ (member (c .tying) x || (isTied done last g && member (intersection g last) x))
+  sort-tying : (i : ℕ) (g : Set) (c : Candidates) (x : ℕ) → member (sortJob done last i g c .tying) x
+      ≡ (member (c .tying) x || (isTied done last g && member (intersection g last) x))
   unfolding sortJob choose
   sort-tying i g c x = go (isForced done last g) refl (isTied done last g) refl
     where
@@ -123,7 +127,8 @@ module _ (done last : Set) where
   -- so for all jobs: `part` is one of the three sets, `adds i g x` whether job i with givers g puts x into it
   module _ (givers : ℕ → Set) (part : Candidates → Set) (adds : ℕ → Set → ℕ → Bool)
       (law : (i : ℕ) (g : Set) (c : Candidates) (x : ℕ) → member (part (sortJob done last i g c)) x ≡ (member (part c) x || adds i g x)) where
-    sorted : (is : List ℕ) (c : Candidates) (x : ℕ) → member (part (sortJobs givers done last c is)) x ≡ (member (part c) x || any (λ i. adds i (givers i) x) is)
+    sorted : (is : List ℕ) (c : Candidates) (x : ℕ) → member (part (sortJobs givers done last c is)) x
+        ≡ (member (part c) x || any (λ i. adds i (givers i) x) is)
     unfolding sortJobs any
     sorted [] c x = rw (or-false)
     sorted (i ∷ is) c x = rw (sorted is (sortJob done last i (givers i) c) x, law i (givers i) c x, or-assoc)
@@ -149,12 +154,16 @@ module _ (done last : Set) where
     )
 
     -- the forced jobs: free, with all givers done and none in the slot before
-    pub in-forced : (x : ℕ) → (member (candidatesOf givers free done last .forced) x ≡ true) ↔ ((x < 64) × (member free x ≡ true) × (isForced done last (givers x) ≡ true))
-    in-forced x = Iff·trans (in-sorted givers (λ c. c .forced) (λ i g x. isForced done last g && eqb x i) sort-forced free x (member-empty x)) (itself (isForced done last) x)
+    pub in-forced : (x : ℕ) → (member (candidatesOf givers free done last .forced) x ≡ true)
+        ↔ ((x < 64) × (member free x ≡ true) × (isForced done last (givers x) ≡ true))
+    in-forced x = Iff·trans (in-sorted givers (λ c. c .forced) (λ i g x. isForced done last g && eqb x i) sort-forced free x (member-empty x))
+        (itself (isForced done last) x)
 
     -- the tied jobs: free, with all givers done and exactly one in the slot before
-    pub in-tied : (x : ℕ) → (member (candidatesOf givers free done last .tied) x ≡ true) ↔ ((x < 64) × (member free x ≡ true) × (isTied done last (givers x) ≡ true))
-    in-tied x = Iff·trans (in-sorted givers (λ c. c .tied) (λ i g x. isTied done last g && eqb x i) sort-tied free x (member-empty x)) (itself (isTied done last) x)
+    pub in-tied : (x : ℕ) → (member (candidatesOf givers free done last .tied) x ≡ true)
+        ↔ ((x < 64) × (member free x ≡ true) × (isTied done last (givers x) ≡ true))
+    in-tied x = Iff·trans (in-sorted givers (λ c. c .tied) (λ i g x. isTied done last g && eqb x i) sort-tied free x (member-empty x))
+        (itself (isTied done last) x)
 
     -- the tying jobs: the givers in the slot before of the tied ones
     pub record Tying (x : ℕ) : Type 0 where
@@ -178,7 +187,8 @@ module _ (done last : Set) where
         sums = in-sorted givers (λ c. c .tying) (λ i g x. isTied done last g && member (intersection g last) x) sort-tying free x (member-empty x)
 
 -- both are among the places of the slot
-pub candidates-held : (A : Tables) (s : ℕ) (done ran : Set) (p : ℕ) → (member (candidatesAt A s done ran .forced) p ≡ true) ⊎ (member (candidatesAt A s done ran .tied) p ≡ true)
+pub candidates-held : (A : Tables) (s : ℕ) (done ran : Set) (p : ℕ) → (member (candidatesAt A s done ran .forced) p ≡ true)
+    ⊎ (member (candidatesAt A s done ran .tied) p ≡ true)
     → member (A .held s) p ≡ true
 unfolding candidatesAt
 candidates-held A s done ran p o =
@@ -206,8 +216,10 @@ tries-held A cap s done ran S w p m =
     c = candidatesAt A s done ran
 
 -- the cap, or as many as fit
-pub most-is : (cap : ℕ) (c : Candidates) → (mostOf cap c ≤ cap) × (mostOf cap c ≤ fitOf c) × ((m : ℕ) → m ≤ cap → m ≤ fitOf c → (cap ≤ m) ⊎ (fitOf c ≤ m) → m ≡ mostOf cap c)
+pub most-is : (cap : ℕ) (c : Candidates) → (mostOf cap c ≤ cap) × (mostOf cap c ≤ fitOf c)
+    × ((m : ℕ) → m ≤ cap → m ≤ fitOf c → (cap ≤ m) ⊎ (fitOf c ≤ m) → m ≡ mostOf cap c)
 unfolding mostOf
 most-is cap c = by-choice (λ x. (x ≤ cap) × (x ≤ fitOf c) × ((m : ℕ) → m ≤ cap → m ≤ fitOf c → (cap ≤ m) ⊎ (fitOf c ≤ m) → m ≡ x)) (leb cap (fitOf c))
     (λ t. let l = T-leb cap (fitOf c) .0 t in (omega arith, l, λ m a b o. ⊎-elim (λ e. omega arith) (λ e. omega arith) o))
-    (λ n. let l : ¬ (cap ≤ fitOf c) = λ q. n (T-leb cap (fitOf c) .1 q) in (omega arith, omega arith, λ m a b o. ⊎-elim (λ e. omega arith) (λ e. omega arith) o))
+    (λ n. let l : ¬ (cap ≤ fitOf c) = λ q. n (T-leb cap (fitOf c) .1 q) in
+    (omega arith, omega arith, λ m a b o. ⊎-elim (λ e. omega arith) (λ e. omega arith) o))

@@ -20,9 +20,11 @@ use Rattle.places.specs.Memo.{Explored, atOnce, hit, missThen, opening, 
 unfoldable pub following : Tables → (ℕ → ℕ) → Tries → ℕ → ℕ → Set → Set → List ℕ → Explored
 following A base tries left s done S dead = explored A base tries (left - 1) (s + 1) (doneAfter A s done S) S dead
 
-following-suc : (A : Tables) (base : ℕ → ℕ) (tries : Tries) (k s : ℕ) (done : Set) → following A base tries (suc k) s done ≡ (λ S dead. explored A base tries k (suc s) (doneAfter A s done S) S dead)
+following-suc : (A : Tables) (base : ℕ → ℕ) (tries : Tries) (k s : ℕ) (done : Set) → following A base tries (suc k) s done
+    ≡ (λ S dead. explored A base tries k (suc s) (doneAfter A s done S) S dead)
 unfolding following
-following-suc A base tries k s done = ap₂ (λ (m z : ℕ). λ (S : Set) (dead : List ℕ). explored A base tries m z (doneAfter A s done S) S dead) (omega arith) (add-one s)
+following-suc A base tries k s done = ap₂ (λ (m z : ℕ). λ (S : Set) (dead : List ℕ). explored A base tries m z (doneAfter A s done S) S dead) (omega arith)
+    (add-one s)
 
 module _ (A : Tables) (base : ℕ → ℕ) (tries : Tries) (s : ℕ) (done ran : Set) (dead : List ℕ) where
   -- a job that is due is not done
@@ -37,7 +39,8 @@ module _ (A : Tables) (base : ℕ → ℕ) (tries : Tries) (s : ℕ) (done ran :
   explored-end h = rw (h)
 
   -- the state is marked
-  pub explored-marked : (left : ℕ) → 0 < left → isSubset (A .due s) done ≡ true → isMarked dead (key base s done ran) ≡ true → explored A base tries left s done ran dead ≡ atOnce noPlan dead
+  pub explored-marked : (left : ℕ) → 0 < left → isSubset (A .due s) done ≡ true → isMarked dead (key base s done ran) ≡ true
+      → explored A base tries left s done ran dead ≡ atOnce noPlan dead
   unfolding explored choose
   explored-marked zero p i m = absurd (omega arith)
   explored-marked (suc left) p i m = rw (i, m)
@@ -61,15 +64,18 @@ pub one-hit : (goes : Set → List ℕ → Explored) (S : Set) (dead : List ℕ)
 unfolding exploreAll choose
 one-hit goes S dead e = rw (e)
 
-pub one-miss : (goes : Set → List ℕ → Explored) (S : Set) (dead : List ℕ) → goes S dead .plan .ok ≡ false → Same (atOnce noPlan (goes S dead .dead)) (exploreAll goes (S ∷ []) dead)
+pub one-miss : (goes : Set → List ℕ → Explored) (S : Set) (dead : List ℕ) → goes S dead .plan .ok ≡ false
+    → Same (atOnce noPlan (goes S dead .dead)) (exploreAll goes (S ∷ []) dead)
 unfolding exploreAll choose missThen
 one-miss goes S dead e = rw (e) (record { plan = refl; dead = refl })
 
 -- where every set is late at once nothing is found
-pub all-late : (goes : Set → List ℕ → Explored) (Ss : List Set) (dead : List ℕ) → ((S : Set) → List·Memᴰ S Ss → goes S dead ≡ atOnce noPlan dead) → Same (atOnce noPlan dead) (exploreAll goes Ss dead)
+pub all-late : (goes : Set → List ℕ → Explored) (Ss : List Set) (dead : List ℕ) → ((S : Set) → List·Memᴰ S Ss → goes S dead ≡ atOnce noPlan dead)
+    → Same (atOnce noPlan dead) (exploreAll goes Ss dead)
 unfolding exploreAll choose missThen
 all-late goes [] dead f = record { plan = refl; dead = refl }
-all-late goes (S ∷ Ss) dead f = let e = f S (List·Memᴰ·head refl) in let r = all-late goes Ss dead (λ R m. f R (List·Memᴰ·tail m)) in rw (e) (record { plan = r .plan; dead = r .dead })
+all-late goes (S ∷ Ss) dead f = let e = f S (List·Memᴰ·head refl) in let r = all-late goes Ss dead (λ R m. f R (List·Memᴰ·tail m)) in
+    rw (e) (record { plan = r .plan; dead = r .dead })
 
 pub same-trans : {x y z : Explored} → Same x y → Same y z → Same x z
 same-trans a b = record { plan = a .plan ∙ b .plan; dead = a .dead ∙ b .dead }

@@ -7,6 +7,7 @@ use native.Mathlib.Omega.{arith}
 use native.Mathlib.Decide.{decLt}
 use lib.ListN.{length}
 use lib.Dec.{leb, ltb}
+use Rattle.rules.specs.Sizes.{maxWidth}
 use Rattle.rules.specs.Basics.{range}
 use Rattle.rules.specs.Needs.{Need, Gives, NeedsIn}
 use Rattle.laws.specs.Tests.{tests}
@@ -45,14 +46,15 @@ in-held W s i =
 
 pub in-hold : (W : Windows) (s i : ℕ) → List·Memᴰ i (hold W s) ↔ ((i < W .n) × (W .r i < s) × (s ≤ W .d i))
 in-hold W zero i = (λ m. absurd (List·Memᴰ·not-nil m), λ h. absurd (omega (arith, h .1)))
-in-hold W (suc s) i = let w = in-held W s i in (λ m. let v = w .0 m in (v .0, omega (arith, v .1), omega (arith, v .2)), λ h. w .1 (h .0, omega (arith, h .1), omega (arith, h .2)))
+in-hold W (suc s) i = let w = in-held W s i in
+    (λ m. let v = w .0 m in (v .0, omega (arith, v .1), omega (arith, v .2)), λ h. w .1 (h .0, omega (arith, h .1), omega (arith, h .2)))
 
 pub held-rising : (W : Windows) (s : ℕ) → Rising (held W s)
 held-rising W s = filter-rising (holdsSlot W s) (range (W .n) 0) (range-rising (W .n) 0)
 
 -- at most eight windows hold one slot below the limit
 pub record Narrow (W : Windows) (limit : ℕ) : Type 0 where
-  pub eight : (s : ℕ) → s < limit → length (held W s) ≤ 8
+  pub eight : (s : ℕ) → s < limit → length (held W s) ≤ maxWidth
 
 -- each job's window within C slots holds a slot
 pub record Room (W : Windows) (C : ℕ) : Type 0 where
@@ -64,10 +66,10 @@ pub record Room (W : Windows) (C : ℕ) : Type 0 where
 -- a place below 8 for each job that a slot holds, different for different jobs of one slot: a job keeps it while its window is open
 pub record Seats (W : Windows) : Type 0 where
   pub place : ℕ → ℕ
-  pub low : (s i : ℕ) → List·Memᴰ i (held W s) → place i < 8
+  pub low : (s i : ℕ) → List·Memᴰ i (held W s) → place i < maxWidth
   pub apart : (s : ℕ) → Apart place (held W s)
 
-pub low-hold : (W : Windows) (Z : Seats W) (s i : ℕ) → List·Memᴰ i (hold W s) → Z .place i < 8
+pub low-hold : (W : Windows) (Z : Seats W) (s i : ℕ) → List·Memᴰ i (hold W s) → Z .place i < maxWidth
 low-hold W Z zero i m = absurd (List·Memᴰ·not-nil m)
 low-hold W Z (suc s) i m = Z .low s i m
 

@@ -57,7 +57,8 @@ once-hit base from slots dead S e E = record {
 }
 
 -- a try that leads to nothing, and the tries after it
-once-miss : (base : ℕ → ℕ) (from slots : ℕ) (dead : List ℕ) (e rest : Explored) → e .plan .ok ≡ false → Once base from slots dead e → Once base from slots (e .dead) rest
+once-miss : (base : ℕ → ℕ) (from slots : ℕ) (dead : List ℕ) (e rest : Explored) → e .plan .ok ≡ false → Once base from slots dead e
+    → Once base from slots (e .dead) rest
     → Once base from slots dead (missThen e rest)
 unfolding missThen
 once-miss base from slots dead e rest o E R = record {
@@ -86,7 +87,8 @@ once-miss base from slots dead e rest o E R = record {
         go false q = refl
 
 -- a state with key k is opened
-once-open : (base : ℕ → ℕ) (slot slots : ℕ) (dead : List ℕ) (k : ℕ) (e : Explored) → (base slot ≤ k) × (k < base (suc slot)) → base (suc slot) ≤ base slots → k < 8 * length dead → isMarked dead k ≡ false
+once-open : (base : ℕ → ℕ) (slot slots : ℕ) (dead : List ℕ) (k : ℕ) (e : Explored) → (base slot ≤ k) × (k < base (suc slot)) → base (suc slot) ≤ base slots
+    → k < 8 * length dead → isMarked dead k ≡ false
     → Once base (suc slot) slots dead e → Once base slot slots dead (opening k e)
 unfolding opening choose
 once-open base slot slots dead k e r l h n E = record {
@@ -94,7 +96,8 @@ once-open base slot slots dead k e r l h n E = record {
   in-slots = λ j m. either (λ j. (base slot ≤ j) × (j < base slots)) (omega arith) (λ j m. omega (arith, E .in-slots j m)) j m;
   unmarked = λ j m. either (λ j. isMarked dead j ≡ false) n (E .unmarked) j m;
   keeps = λ j m. kept (e .plan .ok) j (E .keeps j m);
-  marks = λ o j m. rw (o) (either (λ j. isMarked (withMark (e .dead) k) j ≡ true) (marked k .1 (inr (eq-eqb k k refl))) (λ j m. marked j .1 (inl (E .marks o j m))) j m);
+  marks = λ o j m. rw (o) (either (λ j. isMarked (withMark (e .dead) k) j ≡ true) (marked k .1 (inr (eq-eqb k k refl)))
+      (λ j m. marked j .1 (inl (E .marks o j m))) j m);
   size = sized (e .plan .ok);
 }
   where
@@ -117,7 +120,8 @@ once-open base slot slots dead k e r l h n E = record {
     sized false = length-withMark (e .dead) k ∙ E .size
 
 module _ (A : Tables) (base : ℕ → ℕ) (tries : Tries) (slots : ℕ) (rows : Rows A base slots) (small : TriesHeld A tries slots) where
-  once-all : (goes : Set → List ℕ → Explored) (from : ℕ) (Ss : List Set) → ((S : Set) → List·Memᴰ S Ss → (dead : List ℕ) → base slots ≤ 8 * length dead → Once base from slots dead (goes S dead))
+  once-all : (goes : Set → List ℕ → Explored) (from : ℕ) (Ss : List Set)
+      → ((S : Set) → List·Memᴰ S Ss → (dead : List ℕ) → base slots ≤ 8 * length dead → Once base from slots dead (goes S dead))
       → (dead : List ℕ) → base slots ≤ 8 * length dead → Once base from slots dead (exploreAll goes Ss dead)
   unfolding exploreAll choose
   once-all goes from [] h dead r = once-none base from slots dead noPlan
@@ -126,19 +130,22 @@ module _ (A : Tables) (base : ℕ → ℕ) (tries : Tries) (slots : ℕ) (rows :
       e : Explored
       e = goes S dead
 
-      go : (o : Bool) → e .plan .ok ≡ o → Once base from slots dead e → ((b : List ℕ) → base slots ≤ 8 * length b → Once base from slots b (exploreAll goes Ss b))
+      go : (o : Bool) → e .plan .ok ≡ o → Once base from slots dead e
+          → ((b : List ℕ) → base slots ≤ 8 * length b → Once base from slots b (exploreAll goes Ss b))
           → Once base from slots dead (choose o (hit S e) (missThen e (exploreAll goes Ss (e .dead))))
       go true q E ih = once-hit base from slots dead S e E
       go false q E ih = once-miss base from slots dead e (exploreAll goes Ss (e .dead)) q E (ih (e .dead) (rw (E .size) r))
 
   -- no search opens a state twice
-  pub explored-once : (left s : ℕ) (done ran : Set) (dead : List ℕ) → Reached A slots left s done ran → base slots ≤ 8 * length dead → Once base s slots dead (explored A base tries left s done ran dead)
+  pub explored-once : (left s : ℕ) (done ran : Set) (dead : List ℕ) → Reached A slots left s done ran → base slots ≤ 8 * length dead
+      → Once base s slots dead (explored A base tries left s done ran dead)
   unfolding explored choose
   explored-once zero s done ran dead t r = once-none base s slots dead (choose (isSubset (A .due s) done) finished noPlan)
   explored-once (suc k) s done ran dead t r =
       go (isSubset (A .due s) done) (isMarked dead (key base s done ran)) refl
       (once-all (λ S b. explored A base tries k (suc s) (doneAfter A s done S) S b) (suc s) (tries s done ran)
-      (λ S m b. explored-once k (suc s) (doneAfter A s done S) S b (reached-next A base slots rows k s done ran S t (small s (omega (arith, t .total)) done ran S m))) dead r)
+      (λ S m b. explored-once k (suc s) (doneAfter A s done S) S b
+      (reached-next A base slots rows k s done ran S t (small s (omega (arith, t .total)) done ran S m))) dead r)
     where
       tried : Explored
       tried = exploreAll (λ S b. explored A base tries k (suc s) (doneAfter A s done S) S b) (tries s done ran) dead
@@ -150,12 +157,14 @@ module _ (A : Tables) (base : ℕ → ℕ) (tries : Tries) (slots : ℕ) (rows :
           → Once base s slots dead (choose u (choose m (atOnce noPlan dead) (opening (key base s done ran) tried)) (atOnce noPlan dead))
       go false m e E = once-none base s slots dead noPlan
       go true true e E = once-none base s slots dead noPlan
-      go true false e E = let w = key-slot A base slots rows (suc k) s done ran (omega arith) t in once-open base s slots dead (key base s done ran) tried w last (omega (arith, w, last)) e E
+      go true false e E = let w = key-slot A base slots rows (suc k) s done ran (omega arith) t in
+          once-open base s slots dead (key base s done ran) tried w last (omega (arith, w, last)) e E
 
   -- so the search of one length opens each of its states once, and no more than its rows have marks
   pub length-once : (dead : List ℕ) → base slots ≤ 8 * length dead
       → Distinct (explored A base tries slots 0 empty empty dead .opened) × (length (explored A base tries slots 0 empty empty dead .opened) ≤ base slots)
   length-once dead r =
       let E = explored-once slots 0 empty empty dead (record { total = omega arith; of-slot = empty-subset empty; included = empty-subset empty }) r in
-      let p = pigeonhole (explored A base tries slots 0 empty empty dead .opened) (range (base slots) 0) (E .distinct) (λ k m. range-below (base slots) k .1 (E .in-slots k m .1)) in
+      let p = pigeonhole (explored A base tries slots 0 empty empty dead .opened) (range (base slots) 0) (E .distinct)
+      (λ k m. range-below (base slots) k .1 (E .in-slots k m .1)) in
       (E .distinct, omega (arith, p, length-range (base slots) 0))

@@ -10,7 +10,7 @@ use native.Mathlib.Nat.{add-mul, one-mul, div-lt-iff-lt-mul}
 use lib.ListN.{length, set, drop, replicate}
 use lib.Seq.{drop-at, getD-set-same}
 use lib.Dec.{T, leb, eqb}
-use Rattle.rules.specs.Sizes.{maxBoards, workSize, tableSize}
+use Rattle.rules.specs.Sizes.{maxBoards, workSize, tableSize, maxLimit, maxWidth}
 use Rattle.rules.specs.Basics.{choose, at}
 use Rattle.rules.specs.Fields.{Answer, after}
 use Rattle.rules.specs.Needs.{Need, NeedsIn, Circle, circleFree}
@@ -126,7 +126,7 @@ module _ {bs : List ℕ} {n L : ℕ} {o rows : List ℕ} (j : JobsRead bs n L o 
       jobs = j;
       free = T-true _ .1 (sym (peeled .answer) ∙ yes-ok);
       boards-are = e;
-      releases-are = peeled .dates-are yes-ok;
+      releases-are = peeled .releases-are yes-ok;
       tails-are = t (j .file .needs) (j .held .needs-in) (j .held .rows-are);
     }
 
@@ -149,7 +149,7 @@ module _ {bs : List ℕ} {n L b : ℕ} {o rows releases tails : List ℕ} (l : L
   no-circle : ¬ (Circle needs)
   no-circle = circle-free n needs needs-in .0 (l .free)
 
-  limit-in : (1 ≤ L) × (L ≤ 64)
+  limit-in : (1 ≤ L) × (L ≤ maxLimit)
   limit-in = let w = l .jobs .keeps .limit-in in omega (arith, l .jobs .held .limit-is)
 
   -- jobs, limit and boards are at least one
@@ -176,7 +176,7 @@ module _ {bs : List ℕ} {n L b : ℕ} {o rows releases tails : List ℕ} (l : L
   })
 
   -- each job has a place exactly where the file is not too wide
-  narrow-iff : HasPlaces windows ↔ (width n needs L ≤ 8)
+  narrow-iff : HasPlaces windows ↔ (width n needs L ≤ maxWidth)
   narrow-iff = wide-iff n needs L needs-in (orderOf windows) (entering-is windows)
 
   module _ {r : ℕ} {words places : List ℕ} (seated : SeatedAll (fileWindows n (l .jobs .file .needs) L) L r words places) where
@@ -185,12 +185,12 @@ module _ {bs : List ℕ} {n L b : ℕ} {o rows releases tails : List ℕ} (l : L
     unfolding planTable
     refused-12 table z = answers-refused bs 12 table (
         goes-on (l .jobs) ∙ ask-yes (circleFree (length (f .jobs)) needs) 11 _ (subst (λ (k : ℕ). T (circleFree k needs)) (l .jobs .held .jobs-is) (l .free))
-        ∙ ask-no (leb (width (length (f .jobs)) needs (f .limit)) 8) 12 _ wide)
+        ∙ ask-no (leb (width (length (f .jobs)) needs (f .limit)) maxWidth) 12 _ wide)
       where
-        wide : T (leb (width (length (f .jobs)) needs (f .limit)) 8) → ⊥
+        wide : T (leb (width (length (f .jobs)) needs (f .limit)) maxWidth) → ⊥
         wide c =
             let e = ap₂ (λ (k d : ℕ). width k needs d) (l .jobs .held .jobs-is) (l .jobs .held .limit-is) in
-            omega (arith, z, seated .enough .1 (narrow-iff .1 (omega (arith, e, T-leb (width (length (f .jobs)) needs (f .limit)) 8 .0 c))))
+            omega (arith, z, seated .enough .1 (narrow-iff .1 (omega (arith, e, T-leb (width (length (f .jobs)) needs (f .limit)) maxWidth .0 c))))
 
     module _ (pos : 0 < r) (least : ℕ) (first : least ≡ firstLength (leastOf releases tails n) n b) where
       -- a length from the first on leaves each job room
@@ -209,7 +209,7 @@ module _ {bs : List ℕ} {n L b : ℕ} {o rows releases tails : List ℕ} (l : L
       ))
 
       -- what the search asks
-      pub search-asked : (bytes : ℕ) (path : List ℕ) → workSize ≤ bytes → length path ≡ 64
+      pub search-asked : (bytes : ℕ) (path : List ℕ) → workSize ≤ bytes → length path ≡ maxLimit
           → Search (fileWindows n (l .jobs .file .needs) L) b r least L n (set words capAt b) places tails bytes path
       unfolding fileWindows
       search-asked bytes path h e = record {
@@ -233,7 +233,7 @@ module _ {bs : List ℕ} {n L b : ℕ} {o rows releases tails : List ℕ} (l : L
       }
 
     module _ (pos : 0 < r) {slots : ℕ} {words′ path : List ℕ} (found : Found (fileWindows n (l .jobs .file .needs) L) b L slots words′ path) where
-      narrow : width n needs L ≤ 8
+      narrow : width n needs L ≤ maxWidth
       narrow = narrow-iff .0 (seated .enough .0 pos)
 
       -- 13 says no

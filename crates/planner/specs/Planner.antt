@@ -3,6 +3,7 @@ use mathlib.Core.Path.{_≡_}
 use mathlib.Core.List.{List}
 use Prim.Native.Nat.{ℕ, _+_, _-_, _/_, _≤_, _<_, max}
 use lib.Dec.{T}
+use Rattle.rules.specs.Sizes.{maxWidth}
 use Rattle.rules.specs.Basics.{at}
 use Rattle.rules.specs.Fields.{got, after}
 use Rattle.rules.specs.Needs.{circleFree}
@@ -52,5 +53,5 @@ pub record PlanRead (bs : List ℕ) (n : ℕ) (offsets words path : List ℕ) (s
   pub rows : List ℕ
   pub jobs : JobsRead bs n limit offsets rows
   pub free : T (circleFree n (jobs .file .needs))
-  pub narrow : width n (jobs .file .needs) limit ≤ 8
+  pub narrow : width n (jobs .file .needs) limit ≤ maxWidth
   pub found : PlanFound (fileWindows n (jobs .file .needs) limit) (mostBoards (jobs .file)) limit slots words path

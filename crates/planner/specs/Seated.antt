@@ -7,6 +7,7 @@ use Prim.Native.Nat.{ℕ, zero, suc, _+_, _≤_, _<_}
 use native.Mathlib.Omega.{arith}
 use native.Mathlib.Decide.{ℕ-discrete}
 use lib.ListN.{length, replicate, length-replicate, getD-replicate}
+use Rattle.rules.specs.Sizes.{maxLimit, maxJobs}
 use Rattle.rules.specs.Basics.{at}
 use Rattle.rules.specs.Needs.{Gives, NeedsIn}
 use Rattle.rules.specs.Program.{slots, Kept, Fits}
@@ -60,12 +61,13 @@ module _ (W : Windows) (Z : Seats W) (C cap limit : ℕ) (words path : List ℕ)
         w .1,
         w .2,
         ap (tablesIn words .who s) (sym (w .2)) ∙ shows .who-is s i l (w .1),
-        start-is W Z C (tablesIn words) shows cap i s (replicate (W .n) limit) (omega (arith, in-held W s i .0 (w .1), length-replicate {A = ℕ} (W .n) limit)) (w .1) (omega (arith, full)) q,
+        start-is W Z C (tablesIn words) shows cap i s (replicate (W .n) limit) (omega (arith, in-held W s i .0 (w .1), length-replicate {A = ℕ} (W .n) limit))
+            (w .1) (omega (arith, full)) q,
       )
 
   -- a job starts where its place is in the set
   of-job : C ≤ limit → Fits (W .n) C t → (i : ℕ) → i < W .n → (p : ℕ) × (member (setAt path (at t i)) p ≡ true) × (tablesIn words .who (at t i) p ≡ i)
-  of-job roof fits i l = go (search-below (λ j. List·Memᴰ i (jobsOf π (held W (0 + j)) (setAt sets j))) (λ j. decMem i _) C)
+  of-job in-limit fits i l = go (search-below (λ j. List·Memᴰ i (jobsOf π (held W (0 + j)) (setAt sets j))) (λ j. decMem i _) C)
     where
       go : ((j : ℕ) × (j < C) × List·Memᴰ i (jobsOf π (held W (0 + j)) (setAt sets j)))
           ⊎ ((j : ℕ) → j < C → List·Memᴰ i (jobsOf π (held W (0 + j)) (setAt sets j)) → ⊥)
@@ -73,7 +75,8 @@ module _ (W : Windows) (Z : Seats W) (C cap limit : ℕ) (words path : List ℕ)
       go (inl (j, h, m)) =
           let z : 0 + j ≡ j = omega arith in
           let w = in-jobs π (held W j) (setAt sets j) i .0 (rw z at m) in
-          let e = start-is W Z C (tablesIn words) shows cap i j (replicate (W .n) limit) (omega (arith, length-replicate {A = ℕ} (W .n) limit)) (w .0) (omega (arith, full)) (w .1) in
+          let e = start-is W Z C (tablesIn words) shows cap i j (replicate (W .n) limit) (omega (arith, length-replicate {A = ℕ} (W .n) limit)) (w .0)
+          (omega (arith, full)) (w .1) in
           rw e (π i, ap (λ S. member S (π i)) (same j h) ∙ w .1, shows .who-is j i h (w .0))
       go (inr f) = absurd (omega (
         arith,
@@ -82,19 +85,21 @@ module _ (W : Windows) (Z : Seats W) (C cap limit : ℕ) (words path : List ℕ)
       ))
 
   -- so the placing on boards can take it
-  pub placeable : W .n ≤ 400 → C ≤ 64 → C ≤ limit → NeedsIn (W .n) (W .needs) → slots (placed W (Z .place) 0 (planOf (tablesIn words) cap C .sets) (replicate (W .n) limit)) ≡ C
+  pub placeable : W .n ≤ maxJobs → C ≤ maxLimit → C ≤ limit → NeedsIn (W .n) (W .needs)
+      → slots (placed W (Z .place) 0 (planOf (tablesIn words) cap C .sets) (replicate (W .n) limit)) ≡ C
       → Kept (Gives (W .needs)) (at (placed W (Z .place) 0 (planOf (tablesIn words) cap C .sets) (replicate (W .n) limit)))
       → Fits (W .n) C (placed W (Z .place) 0 (planOf (tablesIn words) cap C .sets) (replicate (W .n) limit))
       → Placeable (W .n) (W .needs) (placed W (Z .place) 0 (planOf (tablesIn words) cap C .sets) (replicate (W .n) limit)) words path C
-  placeable few short roof needs-in slots-are kept fits = record {
+  placeable few short in-limit needs-in slots-are kept fits = record {
     few = few;
     slots-few = short;
     slots-are = slots-are;
     len = fits .len;
     needs-in = needs-in;
     kept = kept;
-    at-place = λ s p l m. let w = at-set s p l m in (omega (arith, w .2, Z .low s (w .0) (w .1)), omega (arith, w .3, in-held W s (w .0) .0 (w .1)), rw (w .3) (w .4));
-    of-job = of-job roof fits;
+    at-place = λ s p l m. let w = at-set s p l m in
+        (omega (arith, w .2, Z .low s (w .0) (w .1)), omega (arith, w .3, in-held W s (w .0) .0 (w .1)), rw (w .3) (w .4));
+    of-job = of-job in-limit fits;
     apart = λ s p q l m k e. let a = at-set s p l m in let b = at-set s q l k in sym (a .2) ∙ ap π (sym (a .3) ∙ e ∙ b .3) ∙ b .2;
     givers = givers;
   }

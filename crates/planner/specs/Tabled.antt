@@ -6,6 +6,7 @@ use Prim.Native.Nat.{ℕ, _≤_, _<_}
 use native.Mathlib.Omega.{arith}
 use lib.ListN.{length, take, drop, replicate, length-drop, length-take}
 use lib.Seq.{ext-getD, getD-take}
+use Rattle.rules.specs.Sizes.{maxWidth, maxLimit, maxJobs}
 use Rattle.rules.specs.Basics.{at, tabulate, largest}
 use Rattle.rules.specs.Numbers.{centimetres}
 use Rattle.rules.specs.Fields.{Answer, refused, got, after, value}
@@ -53,7 +54,8 @@ module _ {bs : List ℕ} {n L : ℕ} {o rows : List ℕ} (j : JobsRead bs n L o 
   best-same = ap₂ (λ (k l : ℕ). best k (runsb k (j .file .needs) (mostBoards (j .file))) l) (j .held .jobs-is) (j .held .limit-is)
 
   -- without a circle, and not too wide, it decides the answer
-  pub tabled-is : ¬ (Circle (j .file .needs)) → width n (j .file .needs) L ≤ 8 → (x : Option (List ℕ)) → best n (runsb n (j .file .needs) (mostBoards (j .file))) L ≡ x
+  pub tabled-is : ¬ (Circle (j .file .needs)) → width n (j .file .needs) L ≤ maxWidth → (x : Option (List ℕ))
+      → best n (runsb n (j .file .needs) (mostBoards (j .file))) L ≡ x
       → after (readFile bs) planTable ≡ tabled (j .file) x
   unfolding after
   tabled-is free narrow x e =
@@ -111,15 +113,15 @@ module _ {bs : List ℕ} {n : ℕ} {o words path : List ℕ} {count : ℕ} (p : 
       )
 
   -- at most 64 slots
-  pub slots-few : count ≤ 64
-  slots-few = omega (arith, p .found .roof, p .jobs .held .limit-is, p .jobs .keeps .limit-in)
+  pub slots-few : count ≤ maxLimit
+  slots-few = omega (arith, p .found .in-limit, p .jobs .held .limit-is, p .jobs .keeps .limit-in)
 
   -- the placing on boards can take it
   pub able : Placeable n (p .jobs .file .needs) (listOf) words path count
   unfolding fileWindows
   able = placeable (fileWindows n (f .needs) (p .limit)) (seatsBy (fileWindows n (f .needs) (p .limit)) (p .found .has-places)) count (mostBoards f) (p .limit)
       words path (p .found .ready .shows) (p .found .full) (λ s l. ap (λ (x : ℕ). record { bits = x }) (p .found .same s l))
-      (p .jobs .held .few) slots-few (p .found .roof) needs-in (p .found .slots-are) (kept .0) (kept .1)
+      (p .jobs .held .few) slots-few (p .found .in-limit) needs-in (p .found .slots-are) (kept .0) (kept .1)
 
   -- and so can the starts
   pub places-in : (s : ℕ) → s < count → PlacesIn words s (setAt path s)
@@ -133,12 +135,13 @@ module _ {bs : List ℕ} {n : ℕ} {o words path : List ℕ} {count : ℕ} (p : 
       sets : List ℕ
       sets = plans.planOf (tablesIn words) (mostBoards f) count .sets
 
-  module _ (starts : List ℕ) (starts-are : starts ≡ plans.written (tablesIn words) 0 (take count path) (replicate 400 0)) where
+  module _ (starts : List ℕ) (starts-are : starts ≡ plans.written (tablesIn words) 0 (take count path) (replicate maxJobs 0)) where
     start-at : (i : ℕ) → i < n → at starts i ≡ at listOf i
     start-at i h =
         let few = p .jobs .held .few in
-        ap (λ (t : List ℕ). at t i) (starts-are ∙ ap (λ (s : List ℕ). plans.written (tablesIn words) 0 s (replicate 400 0)) path-sets ∙ p .found .starts-are)
-        ∙ tabulate-at (at listOf) 400 0 i 0 (omega arith) ∙ ap (at listOf) (omega arith)
+        ap (λ (t : List ℕ). at t i) (starts-are ∙ ap (λ (s : List ℕ). plans.written (tablesIn words) 0 s (replicate maxJobs 0)) path-sets
+        ∙ p .found .starts-are)
+        ∙ tabulate-at (at listOf) maxJobs 0 i 0 (omega arith) ∙ ap (at listOf) (omega arith)
 
     module _ (most : ℕ) (out : List ℕ) (boarded : Boarded n words path count most out) where
       -- the boards of the rules
@@ -148,7 +151,7 @@ module _ {bs : List ℕ} {n : ℕ} {o words path : List ℕ} {count : ℕ} (p : 
       boards-same : boards n (f .needs) listOf ≡ b
       boards-same = ap (λ (k : ℕ). boards k (f .needs) listOf) (p .jobs .held .jobs-is)
 
-      pub count-few : most ≤ 8
+      pub count-few : most ≤ maxWidth
       count-few = omega (
         arith,
         boarded .count-is (f .needs) listOf able ∙ ap largest boards-same,
@@ -159,7 +162,12 @@ module _ {bs : List ℕ} {n : ℕ} {o words path : List ℕ} {count : ℕ} (p : 
       -- the table that is written is that of the rules
       table-is : tableWith bs o starts out n count most ≡ tableOf f listOf
       unfolding tableOf tableWith rowWith
-      table-is = λ i. record { slots = sym (p .found .slots-are) i; boards = (boarded .count-is (f .needs) listOf able ∙ ap largest boards-same) i; rows = rows-are i }
+      table-is = λ i. record {
+        slots = sym (p .found .slots-are) i;
+        boards = (boarded .count-is (f .needs) listOf able
+            ∙ ap largest boards-same) i;
+        rows = rows-are i;
+      }
         where
           row-is : (i : ℕ) → i < n → rowWith (at starts i) (at out i) (value bs (at o i))
               ≡ record { start = at listOf i; board = at b i; level = centimetres (nthJob (f .jobs) i .level); name = nthJob (f .jobs) i .name }
@@ -169,10 +177,13 @@ module _ {bs : List ℕ} {n : ℕ} {o words path : List ℕ} {count : ℕ} (p : 
               λ k. record { start = start-at i h k; board = a k; level = centimetres (e k .level); name = e k .name }
 
           rows-are : tabulate (λ i. rowWith (at starts i) (at out i) (value bs (at o i))) n 0
-              ≡ tabulate (λ i. record { start = at listOf i; board = at b i; level = centimetres (nthJob (f .jobs) i .level); name = nthJob (f .jobs) i .name }) (length (f .jobs)) 0
+              ≡ tabulate (λ i. record { start = at listOf i; board = at b i; level = centimetres (nthJob (f .jobs) i .level); name = nthJob (f .jobs) i .name })
+              (length (f .jobs)) 0
           rows-are =
               tabulate-same _ _ n 0 (λ i _ h. row-is i (omega arith))
-              ∙ ap (λ (k : ℕ). tabulate (λ i. record { start = at listOf i; board = at b i; level = centimetres (nthJob (f .jobs) i .level); name = nthJob (f .jobs) i .name }) k 0) (p .jobs .held .jobs-is)
+              ∙ ap (λ (k : ℕ). tabulate (λ i. record
+              { start = at listOf i; board = at b i; level = centimetres (nthJob (f .jobs) i .level); name = nthJob (f .jobs) i .name }) k 0)
+              (p .jobs .held .jobs-is)
 
       -- the answer with the table that is written
       pub table-written : (k : ℕ) (table table′ : List ℕ) → k ≡ length (encode (tableWith bs o starts out n count most))

@@ -76,7 +76,8 @@ fn plan_windows(
     work: &mut [u8],
     table: &mut [u8],
 ) -> Planned
-    requires { ⌜ (workSize ≤ length (now work)) × (tableSize ≤ length (now table)) × LevelsRead (now file) jobs limit boards (now offsets) (now work) (now release) (now tail) ⌝ }
+    requires { ⌜ (workSize ≤ length (now work)) × (tableSize ≤ length (now table))
+        × LevelsRead (now file) jobs limit boards (now offsets) (now work) (now release) (now tail) ⌝ }
     ensures { λ r. ⌜ Answers (now (file .entry)) r (now (table .entry)) (now (table .exit)) ⌝ }
 {
     let mut places = [0; MAX_JOBS];

@@ -1,56 +1,18 @@
--- Tests over a range and over a list, one entry after the other: what is still to come is the whole, as long as nothing decides. Assumes nothing.
+-- Tests over a list, one entry after the other: what is still to come is the whole, as long as nothing decides. Assumes nothing.
 use mathlib.Core.Path.{_≡_, refl, sym, ap}
-use mathlib.Core.Bool.{Bool, true, false}
-use mathlib.Core.List.{List, [], _∷_}
-use Prim.Native.Nat.{ℕ, suc, _+_, _-_, _≤_, _<_, max}
+use mathlib.Core.Bool.{true, false}
+use mathlib.Core.List.{List, _∷_}
+use Prim.Native.Nat.{ℕ, _+_, _≤_, _<_, max}
 use native.Mathlib.Omega.{arith}
 use native.Mathlib.Numerals.{add-one}
 use borrow.Author.Tests.{eq-eqb, ne-eqb, le-leb, lt-leb}
 use lib.ListN.{length, drop, drop-of-length-le}
 use lib.Seq.{drop-cons}
 use lib.Dec.{leb}
-use Rattle.rules.specs.Basics.{at, all, any, range, largest}
+use Rattle.rules.specs.Basics.{at, all, largest}
 use Rattle.rules.specs.Table.{sameName}
 use Rattle.laws.specs.Tests.{T-false}
 use Rattle.laws.specs.Check.{same-name}
-
--- ---- the numbers from i to before n
-
-unfoldable pub rangeFrom : ℕ → ℕ → List ℕ
-rangeFrom n i = range (n - i) i
-
-range-start : (n : ℕ) → rangeFrom n 0 ≡ range n 0
-unfolding rangeFrom
-range-start n = let e : n - 0 ≡ n = omega arith in rw e refl
-
-range-next : (n i : ℕ) → i < n → rangeFrom n i ≡ i ∷ rangeFrom n (i + 1)
-unfolding rangeFrom range
-range-next n i h = let e : n - i ≡ suc (n - (i + 1)) = omega arith in rw (e, add-one) refl
-
-range-end : (n i : ℕ) → n ≤ i → rangeFrom n i ≡ []
-unfolding rangeFrom range
-range-end n i h = let e : n - i ≡ 0 = omega arith in rw e refl
-
--- p holds of one of the numbers from i to before n
-unfoldable pub anyFrom : (ℕ → Bool) → ℕ → ℕ → Bool
-anyFrom p n i = any p (rangeFrom n i)
-
-module _ (p : ℕ → Bool) (n : ℕ) where
-  pub any-start : anyFrom p n 0 ≡ any p (range n 0)
-  unfolding anyFrom
-  any-start = ap (any p) (range-start n)
-
-  pub any-yes : (i : ℕ) → i < n → p i ≡ true → anyFrom p n i ≡ true
-  unfolding anyFrom any
-  any-yes i h e = rw (range-next n i h, e) refl
-
-  pub any-no : (i : ℕ) → i < n → p i ≡ false → anyFrom p n i ≡ anyFrom p n (i + 1)
-  unfolding anyFrom any
-  any-no i h e = rw (range-next n i h, e) refl
-
-  pub any-end : (i : ℕ) → n ≤ i → anyFrom p n i ≡ false
-  unfolding anyFrom any
-  any-end i h = rw (range-end n i h) refl
 
 -- ---- the entries of a list from entry i on
 

@@ -50,7 +50,8 @@ module _ (job row : List ℕ) where
   level-by f g e m v p q =
       let j : word (at job 0) (at job 1) < 65536 = split-word (at job 0) (at job 1) (f 0) (f 1) .2 in
       let r : word (at row 2) (at row 3) < 65536 = split-word (at row 2) (at row 3) (g 2) (g 3) .2 in
-      rw (p, q, e) (same-word (centimetres (signed (word (at job 0) (at job 1)))) (word (at row 2) (at row 3)) (centimetres-in (signed (word (at job 0) (at job 1))) (unsigned-signed (word (at job 0) (at job 1)) j .1)) r)
+      rw (p, q, e) (same-word (centimetres (signed (word (at job 0) (at job 1)))) (word (at row 2) (at row 3))
+      (centimetres-in (signed (word (at job 0) (at job 1))) (unsigned-signed (word (at job 0) (at job 1)) j .1)) r)
 
 -- ---- 16
 
@@ -112,8 +113,10 @@ one-taken : (t b : List ℕ) (i s c : ℕ) → cellTaken t b (i + 1) s c ≡ (ce
 unfolding cellTaken
 one-taken t b i s c =
     bool-ext (any p (range (i + 1) 0)) (any p (range i 0) || p i)
-    (λ h. let w = T-any p (range (i + 1) 0) .0 h in T-or (any p (range i 0)) (p i) .1 (pick (w .0) (range-below (i + 1) (w .0) .0 (w .1)) (w .2) (ℕ-discrete (w .0) i)))
-    (λ h. ⊎-elim (λ a. let w = T-any p (range i 0) .0 a in T-any p (range (i + 1) 0) .1 (w .0, range-below (i + 1) (w .0) .1 (omega (arith, range-below i (w .0) .0 (w .1))), w .2))
+    (λ h. let w = T-any p (range (i + 1) 0) .0 h in
+    T-or (any p (range i 0)) (p i) .1 (pick (w .0) (range-below (i + 1) (w .0) .0 (w .1)) (w .2) (ℕ-discrete (w .0) i)))
+    (λ h. ⊎-elim (λ a. let w = T-any p (range i 0) .0 a in
+    T-any p (range (i + 1) 0) .1 (w .0, range-below (i + 1) (w .0) .1 (omega (arith, range-below i (w .0) .0 (w .1))), w .2))
     (λ a. T-any p (range (i + 1) 0) .1 (i, range-below (i + 1) i .1 (omega arith), a)) (T-or (any p (range i 0)) (p i) .0 h))
   where
     p : ℕ → Bool
@@ -127,9 +130,15 @@ pub more-taken : (t b : List ℕ) (i : ℕ) (taken : List ℕ) → at t i < maxL
     → Taken t b (i + 1) (set taken (at t i) (with (setAt taken (at t i)) (at b i) .bits))
 more-taken t b i taken h l k = record { size = length-set taken (at t i) _ ∙ k .size; cells = λ s c p q. go s c p q (ℕ-discrete s (at t i)) }
   where
-    go : (s c : ℕ) → s < maxLimit → c < 64 → Dec (s ≡ at t i) → member (setAt (set taken (at t i) (with (setAt taken (at t i)) (at b i) .bits)) s) c ≡ cellTaken t b (i + 1) s c
+    go : (s c : ℕ) → s < maxLimit → c < 64 → Dec (s ≡ at t i) → member (setAt (set taken (at t i) (with (setAt taken (at t i)) (at b i) .bits)) s) c
+        ≡ cellTaken t b (i + 1) s c
     go s c p q (yes e) =
-        rw (one-taken t b i s c, e, getD-set-same taken (at t i) (with (setAt taken (at t i)) (at b i) .bits) 0 (omega (arith, k .size)), eq-eqb (at t i) (at t i) refl)
+        rw (
+          one-taken t b i s c,
+          e,
+          getD-set-same taken (at t i) (with (setAt taken (at t i)) (at b i) .bits) 0 (omega (arith, k .size)),
+          eq-eqb (at t i) (at t i) refl,
+        )
         (member-with (setAt taken (at t i)) (at b i) c ∙ rw (k .cells (at t i) c h q) refl)
     go s c p q (no n) =
         rw (one-taken t b i s c, getD-set-other taken (at t i) s (with (setAt taken (at t i)) (at b i) .bits) 0 n, ne-eqb s (at t i) n)
@@ -156,7 +165,8 @@ pub and-first-yes : {whole a rest : Bool} → whole ≡ (a && rest) → a ≡ tr
 and-first-yes {rest = rest} e y = sym (e ∙ ap (λ (x : Bool). x && rest) y)
 
 -- one taker more, and none
-pub word-first : (t b : List ℕ) (g first : ℕ) (S R : Set) (i : ℕ) → members S ≡ i ∷ members R → wordKept t b g first S ≡ (lateEnough t b g (first + i) && wordKept t b g first R)
+pub word-first : (t b : List ℕ) (g first : ℕ) (S R : Set) (i : ℕ) → members S ≡ i ∷ members R → wordKept t b g first S
+    ≡ (lateEnough t b g (first + i) && wordKept t b g first R)
 unfolding wordKept all
 word-first t b g first S R i e = rw e refl
 
@@ -180,7 +190,8 @@ module _ (rows t b : List ℕ) (g w : ℕ) where
   word-last h = rw (words-end rows (length t) g w h) refl
 
 -- by the rows as by the needs
-pub kept-is : (n : ℕ) (needs : List Need) (rows t b : List ℕ) → n ≤ maxJobs → NeedsIn n needs → RowsAre rows n needs → length t ≡ n → rowsKept rows t b ≡ needsKept needs t b
+pub kept-is : (n : ℕ) (needs : List Need) (rows t b : List ℕ) → n ≤ maxJobs → NeedsIn n needs → RowsAre rows n needs → length t ≡ n → rowsKept rows t b
+    ≡ needsKept needs t b
 unfolding rowsKept keptBehind lateEnough needsKept
 kept-is n needs rows t b few needs-in are len = bool-ext (rowsKept rows t b) (needsKept needs t b)
     (λ h. let f = simp tests at h in simp tests (λ d m. let w = needs-in (d .0) (d .1) m in

@@ -4,6 +4,10 @@ use Prim.Native.Nat.{ℕ, _+_, _*_, _/_, _%_}
 use lib.Dec.{ltb, eqb}
 use Rattle.rules.specs.Basics.{choose}
 
+-- levels are below this: twice a level, and one more, is a number of two bytes
+abbrev pub levelBound : ℕ
+levelBound = 32767
+
 -- the code after one level more
 unfoldable pub raised : ℕ → ℕ → ℕ
 raised code level = choose (ltb (code / 2) level) (2 * level) (choose (eqb (code / 2) level) (2 * level + 1) code)

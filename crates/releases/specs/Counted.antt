@@ -10,13 +10,14 @@ use native.Mathlib.Omega.{arith}
 use lib.Dec.{T, ltb, eqb}
 use lib.ListN.{length, set, take, replicate, length-set, length-replicate, length-append}
 use lib.Seq.{getD-set-other, take-suc-set}
+use Rattle.rules.specs.Sizes.{maxJobs}
 use Rattle.rules.specs.Basics.{choose, at, has, filter, range, count, Distinct}
 use Rattle.laws.specs.Tests.{tests, T-eqb, bool-ext, choose-yes, choose-no}
 use Rattle.laws.specs.Lists.{decMem, filter-append, zeros-at}
 use Rattle.laws.specs.Counting.{passing, count-none, count-most}
 use Rattle.needrows.specs.Rows.{takersOf}
 use Rattle.needrows.specs.Takers.{takers-distinct}
-use Rattle.releases.specs.Peels.{entries, each}
+use Rattle.releases.specs.Peels.{each}
 use Rattle.releases.specs.Arrays.{length-each, each-other, each-at, distinct-front, count-one, count-same}
 use Rattle.releases.specs.Ordered.{RowsOf}
 use Rattle.releases.specs.Ends.{giverCount, Waits, firstJobs, First}
@@ -25,9 +26,9 @@ use Rattle.releases.specs.Ends.{giverCount, Waits, firstJobs, First}
 
 -- there is room to count
 pub record Countable (xs waits : List ℕ) : Type 0 where
-  pub in-jobs : (k : ℕ) → List·Memᴰ k xs → k < entries
+  pub in-jobs : (k : ℕ) → List·Memᴰ k xs → k < maxJobs
   pub once : Distinct xs
-  pub small : (k : ℕ) → List·Memᴰ k xs → at waits k ≤ entries
+  pub small : (k : ℕ) → List·Memᴰ k xs → at waits k ≤ maxJobs
 
 pub countable-turn : (k : ℕ) (ks waits : List ℕ) → Countable (k ∷ ks) waits → Countable ks (set waits k (at waits k + 1))
 countable-turn k ks waits w = record {
@@ -60,13 +61,13 @@ first-giver rows n m k g = (λ t. simp tests at t, λ h. simp tests h)
 
 -- the takers of the givers below m are counted
 pub record CountedTo (rows : List ℕ) (n m : ℕ) (waits : List ℕ) : Type 0 where
-  pub size : length waits ≡ entries
+  pub size : length waits ≡ maxJobs
   pub wait : (k : ℕ) → k < n → at waits k ≡ count (firstGiver rows n m k) n
 
-pub counted-start : (rows : List ℕ) (n : ℕ) → CountedTo rows n 0 (replicate entries 0)
+pub counted-start : (rows : List ℕ) (n : ℕ) → CountedTo rows n 0 (replicate maxJobs 0)
 counted-start rows n = record {
-  size = length-replicate {A = ℕ} entries 0;
-  wait = λ k h. zeros-at entries k ∙ sym (count-none (firstGiver rows n 0 k) n (λ g _ t. omega (arith, first-giver rows n 0 k g .0 t .0)));
+  size = length-replicate {A = ℕ} maxJobs 0;
+  wait = λ k h. zeros-at maxJobs k ∙ sym (count-none (firstGiver rows n 0 k) n (λ g _ t. omega (arith, first-giver rows n 0 k g .0 t .0)));
 }
 
 module _ (rows : List ℕ) (n m : ℕ) (waits : List ℕ) (rows-of : RowsOf rows n) (less : m < n) (w : CountedTo rows n m waits) where
@@ -126,7 +127,7 @@ passing-more p m =
     ap (λ (k : ℕ). passing p k) (add-one m) ∙ ap (filter p) (range-more m 0) ∙ filter-append p (range m 0) ((0 + m) ∷ [])
     ∙ ap (λ (k : ℕ). passing p m ++ filter p (k ∷ [])) e ∙ unfold filter in refl
 
-pub first-start : (waits order : List ℕ) → length order ≡ entries → First waits 0 0 order
+pub first-start : (waits order : List ℕ) → length order ≡ maxJobs → First waits 0 0 order
 unfolding filter range
 first-start waits order e = record { size = e; count-is = refl; jobs-are = refl }
 
@@ -136,7 +137,7 @@ module _ (waits : List ℕ) (m c : ℕ) (order : List ℕ) (w : First waits m c 
   first-count = omega (arith, w .count-is, count-most (λ k. eqb (at waits k) 0) m)
 
   -- one more
-  pub first-yes : m < entries → at waits m ≡ 0 → First waits (m + 1) (c + 1) (set order c m)
+  pub first-yes : m < maxJobs → at waits m ≡ 0 → First waits (m + 1) (c + 1) (set order c m)
   first-yes h e = record {
     size = length-set order c m ∙ w .size;
     count-is = omega (arith, w .count-is, ap length more, length-append (firstJobs waits m) (m ∷ []));

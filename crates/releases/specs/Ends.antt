@@ -11,6 +11,7 @@ use borrow.Author.Tests.{eqb-true, eq-eqb, ne-eqb}
 use lib.Dec.{T, eqb}
 use lib.ListN.{length, take, replicate, length-replicate}
 use lib.Seq.{length-take-le}
+use Rattle.rules.specs.Sizes.{maxJobs}
 use Rattle.rules.specs.Basics.{at, any, has, range, count}
 use Rattle.rules.specs.Needs.{Need, Gives, NeedsIn, Circle, marked, rounds, circleFree}
 use Rattle.rules.specs.Windows.{release}
@@ -21,7 +22,7 @@ use Rattle.laws.specs.Circles.{none-marked, giver-first, circle-free}
 use Rattle.laws.specs.Releases.{value1-is, release-only}
 use Rattle.needrows.specs.Rows.{takersOf, RowsAre}
 use Rattle.releases.specs.Gathered.{gathered-none, behind-is}
-use Rattle.releases.specs.Peels.{entries, Peel}
+use Rattle.releases.specs.Peels.{Peel}
 use Rattle.releases.specs.Arrays.{take-mem, count-same}
 use Rattle.releases.specs.Ordered.{RowsOf, Giver, Topological, Peeled}
 use Rattle.releases.specs.Sorted.{giver-is, order-free}
@@ -35,7 +36,7 @@ giverCount rows n k = count (λ g. has k (takersOf rows n g)) n
 
 -- each job waits for all its givers
 pub record Waits (rows : List ℕ) (n : ℕ) (waits : List ℕ) : Type 0 where
-  pub size : length waits ≡ entries
+  pub size : length waits ≡ maxJobs
   pub wait : (k : ℕ) → k < n → at waits k ≡ giverCount rows n k
 
 -- the jobs that wait for none, rising
@@ -44,21 +45,21 @@ firstJobs waits n = passing (λ k. eqb (at waits k) 0) n
 
 -- they are the first of the order
 pub record First (waits : List ℕ) (n count : ℕ) (order : List ℕ) : Type 0 where
-  pub size : length order ≡ entries
+  pub size : length order ≡ maxJobs
   pub count-is : count ≡ length (firstJobs waits n)
   pub jobs-are : take count order ≡ firstJobs waits n
 
 pub peeling-start : (rows : List ℕ) (n : ℕ) (waits order : List ℕ) (count : ℕ) → RowsOf rows n → Waits rows n waits → First waits n count order
-    → Peeling rows n 0 (record { release = replicate entries 0; waits = waits; order = order; count = count })
+    → Peeling rows n 0 (record { release = replicate maxJobs 0; waits = waits; order = order; count = count })
 peeling-start rows n waits order c rows-of w f = record {
-  sized = record { release-size = length-replicate {A = ℕ} entries 0; waits-size = w .size; order-size = f .size };
+  sized = record { release-size = length-replicate {A = ℕ} maxJobs 0; waits-size = w .size; order-size = f .size };
   next-le = omega arith;
   count-le = count-le;
   in-jobs = λ k m. in-first k .0 m .0;
   once = rw (f .jobs-are) (passing-distinct (λ k. eqb (at waits k) 0) n);
   waits-are = waits-are;
   entered = λ k h. (λ e. in-first k .1 (h, e), λ m. in-first k .0 m .1);
-  code = λ k h m. rw (zeros-at entries k) (gathered-none (at (replicate entries 0)) _ (λ g u. List·Memᴰ·not-nil (u .0)));
+  code = λ k h m. rw (zeros-at maxJobs k) (gathered-none (at (replicate maxJobs 0)) _ (λ g u. List·Memᴰ·not-nil (u .0)));
   final = λ k m. absurd (List·Memᴰ·not-nil m);
   small = λ k m. absurd (List·Memᴰ·not-nil m);
   before = λ p g h a.
@@ -123,8 +124,8 @@ module _ (rows : List ℕ) (n : ℕ) (s : Peel) (rows-of : RowsOf rows n) (w : P
     end-free : ¬ (Circle needs)
     end-free = order-free n needs (s .order) needs-in end-sorted
 
-    end-dates : (i : ℕ) → i < n → at (s .release) i ≡ release n needs i
-    end-dates i h = release-only n needs needs-in end-free (at (s .release)) (λ k l.
+    end-releases : (i : ℕ) → i < n → at (s .release) i ≡ release n needs i
+    end-releases i h = release-only n needs needs-in end-free (at (s .release)) (λ k l.
         let (c, g, e) = w .final k (all-in k l) in
         value1-is needs (at (s .release)) k (at (s .release) k) .1 (e ∙ behind-is (at (s .release)) c (Giver rows n k) needs k (is-giver k) g)) i h
 
@@ -176,10 +177,10 @@ module _ (rows : List ℕ) (n : ℕ) (s : Peel) (rows-of : RowsOf rows n) (w : P
       go (yes q) = record {
         answer = eq-eqb (s .count) n q ∙ sym (T-true (circleFree n needs) .0 (circle-free n needs needs-in .1 (end-free q)));
         sorted = λ _. end-sorted q;
-        dates-are = λ _. end-dates q;
+        releases-are = λ _. end-releases q;
       }
       go (no q) = record {
         answer = ne-eqb (s .count) n q ∙ sym (T-false (circleFree n needs) (end-circle q));
         sorted = λ p. absurd (q (eqb-true (s .count) n p));
-        dates-are = λ p. absurd (q (eqb-true (s .count) n p));
+        releases-are = λ p. absurd (q (eqb-true (s .count) n p));
       }

@@ -4,15 +4,15 @@ use mathlib.Core.Bool.{Bool, true}
 use mathlib.Core.List.{List, List·Memᴰ}
 use Prim.Native.Nat.{ℕ, _*_, _≤_, _<_}
 use lib.ListN.{length, take}
+use Rattle.rules.specs.Sizes.{maxJobs}
 use Rattle.rules.specs.Basics.{at, Distinct}
 use Rattle.rules.specs.Needs.{Need, Gives, NeedsIn, circleFree}
 use Rattle.rules.specs.Windows.{release}
 use Rattle.needrows.specs.Rows.{rowBytes, takersOf, RowsAre}
-use Rattle.releases.specs.Peels.{entries}
 
 -- the rows of n jobs are those of some needs between them
 pub record OfNeeds (rows : List ℕ) (n : ℕ) : Type 0 where
-  pub jobs-few : n ≤ entries
+  pub jobs-few : n ≤ maxJobs
   pub rows-fit : rowBytes * n ≤ length rows
   pub needs : List Need
   pub needs-in : NeedsIn n needs
@@ -31,16 +31,16 @@ pub record OrderOf (rows : List ℕ) (n : ℕ) (order : List ℕ) : Type 0 where
   pub sorted : Topological n (of-needs .needs) order
 
 -- what peeling gives: the answer to question 11, and where it is yes the order and the release of each job
-pub record Peeled (n : ℕ) (needs : List Need) (ok : Bool) (order dates : List ℕ) : Type 0 where
+pub record Peeled (n : ℕ) (needs : List Need) (ok : Bool) (order releases : List ℕ) : Type 0 where
   pub answer : ok ≡ circleFree n needs
   pub sorted : ok ≡ true → Topological n needs order
-  pub dates-are : ok ≡ true → (i : ℕ) → i < n → at dates i ≡ release n needs i
+  pub releases-are : ok ≡ true → (i : ℕ) → i < n → at releases i ≡ release n needs i
 
 -- ---- what the functions use of the rows
 
 -- the rows of n jobs, each taker one of them
 pub record RowsOf (rows : List ℕ) (n : ℕ) : Type 0 where
-  pub jobs-few : n ≤ entries
+  pub jobs-few : n ≤ maxJobs
   pub rows-fit : rowBytes * n ≤ length rows
   pub takers-in : (g k : ℕ) → g < n → List·Memᴰ k (takersOf rows n g) → k < n
 

@@ -9,10 +9,6 @@ use Rattle.jobset.specs.Sets.{members}
 use Rattle.needrows.specs.Rows.{takersOf}
 use Rattle.releases.specs.Codes.{raised, behind}
 
--- the entries of each array
-abbrev pub entries : ℕ
-entries = 400
-
 -- the members of a set, numbered from `first`
 abbrev pub numbered : ℕ → Set → List ℕ
 numbered first s = map (first +_) (members s)

@@ -11,12 +11,13 @@ use borrow.Author.Tests.{eq-eqb, ne-eqb}
 use lib.Dec.{T, ltb, eqb}
 use lib.ListN.{length, set, take, length-set}
 use lib.Seq.{getD-set-same, getD-set-other, take-suc-set}
+use Rattle.rules.specs.Sizes.{maxJobs}
 use Rattle.rules.specs.Basics.{choose, at, filter, count, Distinct}
 use Rattle.laws.specs.Tests.{T-ltb, T-eqb, choose-yes, choose-no}
 use Rattle.laws.specs.Lists.{filter-same}
 use Rattle.laws.specs.Counting.{count-le}
 use Rattle.releases.specs.Codes.{raised}
-use Rattle.releases.specs.Peels.{entries, each, Peel, peelNeed, peelAll}
+use Rattle.releases.specs.Peels.{each, Peel, peelNeed, peelAll}
 use Rattle.releases.specs.Arrays.{distinct-front, count-one, count-zero}
 
 -- the job has givers that are not peeled
@@ -29,14 +30,14 @@ waiting-is waits k = T-ltb 0 (at waits k)
 
 -- the sizes of the arrays
 pub record Sized (s : Peel) : Type 0 where
-  pub release-size : length (s .release) ≡ entries
-  pub waits-size : length (s .waits) ≡ entries
-  pub order-size : length (s .order) ≡ entries
+  pub release-size : length (s .release) ≡ maxJobs
+  pub waits-size : length (s .waits) ≡ maxJobs
+  pub order-size : length (s .order) ≡ maxJobs
 
 -- the takers xs can be peeled: each waits, none stands twice, and the order has room for all jobs that wait
 pub record Ready (n : ℕ) (xs : List ℕ) (s : Peel) : Type 0 where
   pub sized : Sized s
-  pub jobs-few : n ≤ entries
+  pub jobs-few : n ≤ maxJobs
   pub in-jobs : (k : ℕ) → List·Memᴰ k xs → k < n
   pub waiting : (k : ℕ) → List·Memᴰ k xs → 0 < at (s .waits) k
   pub once : Distinct xs
@@ -62,7 +63,7 @@ peel-sized level k s z = record {
   order-size = go (ℕ-discrete (at (s .waits) k - 1) 0);
 }
   where
-    go : Dec (at (s .waits) k - 1 ≡ 0) → length (peelNeed level k s .order) ≡ entries
+    go : Dec (at (s .waits) k - 1 ≡ 0) → length (peelNeed level k s .order) ≡ maxJobs
     go (yes e) = ap length (peel-last level k s e .0) ∙ length-set (s .order) (s .count) k ∙ z .order-size
     go (no e) = ap length (peel-waits level k s e .0) ∙ z .order-size
 

@@ -5,6 +5,7 @@ use mathlib.Core.List.{List, List·Memᴰ}
 use Prim.Native.Nat.{ℕ, _≤_, _<_}
 use native.Mathlib.Omega.{arith}
 use lib.ListN.{length, take, length-take}
+use Rattle.rules.specs.Sizes.{maxJobs}
 use Rattle.rules.specs.Basics.{at, range}
 use Rattle.rules.specs.Needs.{Need, Gives, NeedsIn, Chain, one, more, Circle}
 use Rattle.laws.specs.Lists.{range-rising}
@@ -12,14 +13,13 @@ use Rattle.laws.specs.Counting.{pigeonhole, rising-distinct, range-below, lengt
 use Rattle.laws.specs.Circles.{start-in}
 use Rattle.needrows.specs.Rows.{RowsAre}
 use Rattle.needrows.specs.Takers.{takers-are}
-use Rattle.releases.specs.Peels.{entries}
 use Rattle.releases.specs.Arrays.{take-mem, take-index, take-more, one-place}
 use Rattle.releases.specs.Ordered.{OfNeeds, Topological, OrderOf, RowsOf, Giver}
 
 -- ---- rows of needs
 
 -- the givers of a job, by the rows and by the needs
-pub giver-is : (rows : List ℕ) (n : ℕ) (needs : List Need) → n ≤ entries → NeedsIn n needs → RowsAre rows n needs
+pub giver-is : (rows : List ℕ) (n : ℕ) (needs : List Need) → n ≤ maxJobs → NeedsIn n needs → RowsAre rows n needs
     → (k g : ℕ) → Giver rows n k g ↔ Gives needs g k
 giver-is rows n needs few needs-in are k g = (
   λ a. takers-are rows n needs (omega arith) needs-in are g (a .0) k .0 (a .1),

@@ -7,6 +7,7 @@ use native.Mathlib.Decide.{ℕ-discrete}
 use native.Mathlib.Omega.{arith}
 use lib.ListN.{length, set, length-set}
 use lib.Seq.{getD-set-same, getD-set-other}
+use Rattle.rules.specs.Sizes.{maxJobs}
 use Rattle.rules.specs.Basics.{at}
 use Rattle.rules.specs.Needs.{Need, Gives, NeedsIn, Circle}
 use Rattle.rules.specs.Windows.{releaseBy, swap, tail}
@@ -16,7 +17,6 @@ use Rattle.needrows.specs.Rows.{takersOf, RowsAre}
 use Rattle.needrows.specs.Takers.{takers-are, takers-distinct}
 use Rattle.releases.specs.Codes.{behind, raisedOver}
 use Rattle.releases.specs.Gathered.{over-behind, over-same, over-bound}
-use Rattle.releases.specs.Peels.{entries}
 use Rattle.releases.specs.Arrays.{take-index}
 use Rattle.releases.specs.Ordered.{OrderOf}
 use Rattle.releases.specs.Sorted.{sorted-by, order-free, taker-later, order-once, order-in}
@@ -27,13 +27,13 @@ tailOver rows n tails job = behind (raisedOver (at tails) 0 (takersOf rows n job
 
 -- the jobs from entry `next` of the order on have their tails
 pub record TailsFrom (rows : List ℕ) (n : ℕ) (order : List ℕ) (next : ℕ) (tails : List ℕ) : Type 0 where
-  pub size : length tails ≡ entries
+  pub size : length tails ≡ maxJobs
   pub next-le : next ≤ n
   pub done : (p : ℕ) → next ≤ p → p < n → at tails (at order p) ≡ tailOver rows n tails (at order p)
   pub small : (p : ℕ) → next ≤ p → p < n → at tails (at order p) + 1 ≤ 2 * (n - next)
 
 -- none yet
-pub tails-start : (rows : List ℕ) (n : ℕ) (order tails : List ℕ) → length tails ≡ entries → TailsFrom rows n order n tails
+pub tails-start : (rows : List ℕ) (n : ℕ) (order tails : List ℕ) → length tails ≡ maxJobs → TailsFrom rows n order n tails
 tails-start rows n order tails e = record { size = e; next-le = omega arith; done = λ p a b. absurd (omega arith); small = λ p a b. absurd (omega arith) }
 
 module _ (rows : List ℕ) (n : ℕ) (order : List ℕ) (w : OrderOf rows n order) where

@@ -1,6 +1,6 @@
 // Question 11 (circles), and the release and the tail of each job: formula (1) of document 000, section 3.2, along the needs and against them.
 //
-// Jobs are peeled: a job whose givers are all peeled enters the order, and its release is raised by each giver's as that one is peeled.
+// Jobs are peeled (a topological sort): a job whose givers are all peeled enters the order, and its release is raised by each giver's as that one is peeled.
 // Where jobs are left over there is a circle. Tails come in the reverse order, each by one pass over the job's takers.
 // Jobs are counted from 0. The needs are rows of takers (crate needrows).
 //
@@ -14,12 +14,13 @@ ghost use mathlib.Core.Path.{_≡_};
 ghost use mathlib.Core.List.{List, List·Memᴰ};
 ghost use Prim.Native.Nat.{ℕ, _+_, _≤_, _<_};
 ghost use lib.ListN.{length, replicate};
+ghost use Rattle.rules.specs.Sizes.{maxJobs};
 ghost use Rattle.rules.specs.Basics.{at};
 ghost use Rattle.rules.specs.Needs.{Need, NeedsIn};
 ghost use Rattle.rules.specs.Windows.{tail as tailOf};
 ghost use Rattle.needrows.specs.Rows.{takersOf, RowsAre};
-ghost use Rattle.releases.specs.Codes.{raised, behind, raisedOver};
-ghost use Rattle.releases.specs.Peels.{entries, numbered, each, peelOf, peelNeed, peelAll, released, peelJob};
+ghost use Rattle.releases.specs.Codes.{levelBound, raised, behind, raisedOver};
+ghost use Rattle.releases.specs.Peels.{numbered, each, peelOf, peelNeed, peelAll, released, peelJob};
 ghost use Rattle.releases.specs.Ready.{Ready};
 ghost use Rattle.releases.specs.Ordered.{OfNeeds, OrderOf, RowsOf, Peeled};
 ghost use Rattle.releases.specs.Ends.{Waits, First};
@@ -29,7 +30,7 @@ ghost use Rattle.releases.specs.Least.{leastOf};
 
 // The code after one level more.
 fn raised(code: u16, level: u16) -> u16
-    requires { ⌜ level < 32767 ⌝ }
+    requires { ⌜ level < levelBound ⌝ }
     ensures { λ r. ⌜ r ≡ raised code level ⌝ }
 {
     let once = 2 * level;
@@ -79,7 +80,7 @@ fn count_row(waits: &mut [u16; MAX_JOBS], rows: &[u8], jobs: usize, giver: usize
 
 // Of each job how many givers it has.
 fn count_givers(waits: &mut [u16; MAX_JOBS], rows: &[u8], jobs: usize)
-    requires { ⌜ RowsOf (now rows) jobs × (now waits ≡ replicate entries 0) ⌝ }
+    requires { ⌜ RowsOf (now rows) jobs × (now waits ≡ replicate maxJobs 0) ⌝ }
     ensures { λ _. ⌜ Waits (now (rows .entry)) jobs (now (waits .exit)) ⌝ }
 {
     let mut giver = 0;
@@ -91,7 +92,7 @@ fn count_givers(waits: &mut [u16; MAX_JOBS], rows: &[u8], jobs: usize)
 
 // The jobs without a giver are the first of the order; gives how many they are.
 fn first_jobs(waits: &[u16; MAX_JOBS], jobs: usize, order: &mut [u16; MAX_JOBS]) -> usize
-    requires { ⌜ (jobs ≤ entries) × (length (now order) ≡ entries) ⌝ }
+    requires { ⌜ (jobs ≤ maxJobs) × (length (now order) ≡ maxJobs) ⌝ }
     ensures { λ r. ⌜ First (now (waits .entry)) jobs r (now (order .exit)) ⌝ }
 {
     let mut count = 0;
@@ -117,7 +118,7 @@ fn peel_need(
     taker: usize,
     level: u16,
 ) -> usize
-    requires { ⌜ (taker < entries) × (count < entries) × (0 < at (now waits) taker) × (level < 32767) ⌝ }
+    requires { ⌜ (taker < maxJobs) × (count < maxJobs) × (0 < at (now waits) taker) × (level < levelBound) ⌝ }
     ensures { λ r. ⌜ peelOf (now (release .exit)) (now (waits .exit)) (now (order .exit)) r
         ≡ peelNeed level taker (peelOf (now (release .entry)) (now (waits .entry)) (now (order .entry)) count) ⌝ }
 {
@@ -141,7 +142,7 @@ fn peel_word(
     takers: Set,
     level: u16,
 ) -> usize
-    requires { ⌜ (level < 32767) × ((n : ℕ) × Ready n (numbered first takers) (peelOf (now release) (now waits) (now order) count)) ⌝ }
+    requires { ⌜ (level < levelBound) × ((n : ℕ) × Ready n (numbered first takers) (peelOf (now release) (now waits) (now order) count)) ⌝ }
     ensures { λ r. ⌜ peelOf (now (release .exit)) (now (waits .exit)) (now (order .exit)) r
         ≡ peelAll level (numbered first takers) (peelOf (now (release .entry)) (now (waits .entry)) (now (order .entry)) count) ⌝ }
 {
@@ -166,7 +167,7 @@ fn peel_row(
     job: usize,
     level: u16,
 ) -> usize
-    requires { ⌜ RowsOf (now rows) jobs × (job < jobs) × (level < 32767)
+    requires { ⌜ RowsOf (now rows) jobs × (job < jobs) × (level < levelBound)
         × Ready jobs (takersOf (now rows) jobs job) (peelOf (now release) (now waits) (now order) count) ⌝ }
     ensures { λ r. ⌜ peelOf (now (release .exit)) (now (waits .exit)) (now (order .exit)) r
         ≡ peelAll level (takersOf (now (rows .entry)) jobs job) (peelOf (now (release .entry)) (now (waits .entry)) (now (order .entry)) count) ⌝ }
@@ -199,7 +200,7 @@ fn peel_job(
     count: usize,
     job: usize,
 ) -> usize
-    requires { ⌜ RowsOf (now rows) jobs × (job < jobs) × (behind (at (now release) job) < 32766)
+    requires { ⌜ RowsOf (now rows) jobs × (job < jobs) × (behind (at (now release) job) + 1 < levelBound)
         × Ready jobs (takersOf (now rows) jobs job) (released job (peelOf (now release) (now waits) (now order) count)) ⌝ }
     ensures { λ r. ⌜ peelOf (now (release .exit)) (now (waits .exit)) (now (order .exit)) r
         ≡ peelJob (now (rows .entry)) jobs job (peelOf (now (release .entry)) (now (waits .entry)) (now (order .entry)) count) ⌝ }
@@ -216,7 +217,7 @@ pub fn peel(
     order: &mut [u16; MAX_JOBS],
     release: &mut [u16; MAX_JOBS],
 ) -> bool
-    requires { ⌜ OfNeeds (now rows) jobs × (length (now order) ≡ entries) × (now release ≡ replicate entries 0) ⌝ }
+    requires { ⌜ OfNeeds (now rows) jobs × (length (now order) ≡ maxJobs) × (now release ≡ replicate maxJobs 0) ⌝ }
     ensures { λ r. ⌜ ((needs : List Need) → NeedsIn jobs needs → RowsAre (now (rows .entry)) jobs needs
         → Peeled jobs needs r (now (order .exit)) (now (release .exit))) ⌝ }
 {
@@ -236,7 +237,7 @@ pub fn peel(
 
 // The code after the levels behind the takers in a word, numbered from `first`.
 fn raised_by_word(tail: &[u16; MAX_JOBS], first: usize, takers: Set, code: u16) -> u16
-    requires { ⌜ ((k : ℕ) → List·Memᴰ k (numbered first takers) → (k < entries) × (at (now tail) k < 32766)) ⌝ }
+    requires { ⌜ ((k : ℕ) → List·Memᴰ k (numbered first takers) → (k < maxJobs) × (at (now tail) k + 1 < levelBound)) ⌝ }
     ensures { λ r. ⌜ r ≡ raisedOver (at (now (tail .entry))) code (numbered first takers) ⌝ }
 {
     let mut rest = takers;
@@ -251,7 +252,7 @@ fn raised_by_word(tail: &[u16; MAX_JOBS], first: usize, takers: Set, code: u16) 
 
 // The tail of a job whose takers have theirs: one pass over the takers.
 fn tail_of(rows: &[u8], jobs: usize, tail: &[u16; MAX_JOBS], job: usize) -> u16
-    requires { ⌜ RowsOf (now rows) jobs × (job < jobs) × ((k : ℕ) → List·Memᴰ k (takersOf (now rows) jobs job) → at (now tail) k < 32766) ⌝ }
+    requires { ⌜ RowsOf (now rows) jobs × (job < jobs) × ((k : ℕ) → List·Memᴰ k (takersOf (now rows) jobs job) → at (now tail) k + 1 < levelBound) ⌝ }
     ensures { λ r. ⌜ r ≡ tailOver (now (rows .entry)) jobs (now (tail .entry)) job ⌝ }
 {
     let last = words(jobs);
@@ -266,7 +267,7 @@ fn tail_of(rows: &[u8], jobs: usize, tail: &[u16; MAX_JOBS], job: usize) -> u16
 
 // The tail of each job, from the last of the order to the first.
 pub fn tails(rows: &[u8], jobs: usize, order: &[u16; MAX_JOBS], tail: &mut [u16; MAX_JOBS])
-    requires { ⌜ OrderOf (now rows) jobs (now order) × (length (now tail) ≡ entries) ⌝ }
+    requires { ⌜ OrderOf (now rows) jobs (now order) × (length (now tail) ≡ maxJobs) ⌝ }
     ensures { λ _. ⌜ ((needs : List Need) → NeedsIn jobs needs → RowsAre (now (rows .entry)) jobs needs
         → (i : ℕ) → i < jobs → at (now (tail .exit)) i ≡ tailOf jobs needs i) ⌝ }
 {
@@ -289,7 +290,7 @@ fn span(release: u16, tail: u16) -> usize
 
 // The least makespan that leaves every job a slot: the greatest span.
 pub fn least(release: &[u16; MAX_JOBS], tail: &[u16; MAX_JOBS], jobs: usize) -> usize
-    requires { ⌜ jobs ≤ entries ⌝ }
+    requires { ⌜ jobs ≤ maxJobs ⌝ }
     ensures { λ r. ⌜ r ≡ leastOf (now (release .entry)) (now (tail .entry)) jobs ⌝ }
 {
     let mut most = 0;

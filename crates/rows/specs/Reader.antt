@@ -16,7 +16,8 @@ use Rattle.rows.specs.RowByRow.{ReadTo, end-rows}
 use Rattle.rows.specs.declared.Rows as code
 
 -- the reader refuses
-pub refused-read : (bs : List ℕ) (r : code.Rows) (o s b : List ℕ) → r .ok ≡ false → ((few : ℕ → Bool) → Few few → decode few bs ≡ refused 14) → Decodes bs r o s b
+pub refused-read : (bs : List ℕ) (r : code.Rows) (o s b : List ℕ) → r .ok ≡ false → ((few : ℕ → Bool) → Few few → decode few bs ≡ refused 14)
+    → Decodes bs r o s b
 refused-read bs r o s b e h = record { held = λ t. absurd (true≢false (sym t ∙ e)); not-read = λ _. h }
 
 pub no-head : (bs : List ℕ) → headOk bs ≡ false → (few : ℕ → Bool) → Few few → decode few bs ≡ refused 14

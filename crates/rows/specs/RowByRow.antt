@@ -105,7 +105,8 @@ module _ (bs : List ℕ) (o s b : List ℕ) (n a : ℕ) (r : ReadTo bs o s b n a
 
   module _ (h : a < length bs) where
     -- the field at a, and what follows it
-    split : (j : ℕ) × (length bs - fieldEnd bs a ≤ j) × (allRows bs ≡ after (readRow bs (tabulate (rowNumber bs) n 0) a) (λ t. overFields (readRow bs) j bs (fieldEnd bs a) t))
+    split : (j : ℕ) × (length bs - fieldEnd bs a ≤ j)
+        × (allRows bs ≡ after (readRow bs (tabulate (rowNumber bs) n 0) a) (λ t. overFields (readRow bs) j bs (fieldEnd bs a) t))
     split = let p = overFields-step (readRow bs) (r .room) bs a (tabulate (rowNumber bs) n 0) h (r .enough) in (p .0, p .1, sym (r .to-come) ∙ p .2)
 
     pub refuses : rowAnswer bs a ≡ answer.Refused → (few : ℕ → Bool) → Few few → decode few bs ≡ refused 14
@@ -128,7 +129,8 @@ module _ (bs : List ℕ) (o s b : List ℕ) (n a : ℕ) (r : ReadTo bs o s b n a
             let q : u ++ rowOf (value bs c) ∷ [] ≡ v = cc (w .1) in
             omega (arith, ap length q, length-append u (rowOf (value bs c) ∷ []))
 
-        more : (rows : List Row) → (t : List Row) × (readRow bs before a ≡ got t) × (overFields (readRow bs) (split .0) bs (fieldEnd bs a) t ≡ got rows) → maxJobs < length rows
+        more : (rows : List Row) → (t : List Row) × (readRow bs before a ≡ got t) × (overFields (readRow bs) (split .0) bs (fieldEnd bs a) t ≡ got rows)
+            → maxJobs < length rows
         more rows w =
             overFields-keeps (readRow bs) (λ u. maxJobs < length u) (λ u v c l e. longer u v c (omega arith) e) (split .0) bs (fieldEnd bs a) (w .0) rows
             (longer before (w .0) a (omega (arith, length-tabulate (rowNumber bs) n 0)) (w .1)) (w .2)
@@ -149,11 +151,13 @@ module _ (bs : List ℕ) (o s b : List ℕ) (n a : ℕ) (r : ReadTo bs o s b n a
 
       start-byte : at bs (a + 3) ≡ rowNumber bs n .start
       unfolding rowNumber rowOf
-      start-byte = rw (← (r .here)) (sym (value-byte bs a 0 (omega (arith, fits .sizes)) (fits .is-whole) ∙ let e : a + 3 + 0 ≡ a + 3 = omega arith in rw e refl))
+      start-byte = rw (← (r .here)) (sym (value-byte bs a 0 (omega (arith, fits .sizes)) (fits .is-whole) ∙ let e : a + 3 + 0 ≡ a + 3 = omega arith in
+          rw e refl))
 
       board-byte : at bs (a + 4) ≡ rowNumber bs n .board
       unfolding rowNumber rowOf
-      board-byte = rw (← (r .here)) (sym (value-byte bs a 1 (omega (arith, fits .sizes)) (fits .is-whole) ∙ let e : a + 3 + 1 ≡ a + 4 = omega arith in rw e refl))
+      board-byte = rw (← (r .here)) (sym (value-byte bs a 1 (omega (arith, fits .sizes)) (fits .is-whole) ∙ let e : a + 3 + 1 ≡ a + 4 = omega arith in
+          rw e refl))
 
       rows-next : tabulate (rowNumber bs) n 0 ++ rowOf (value bs a) ∷ [] ≡ tabulate (rowNumber bs) (suc n) 0
       unfolding rowNumber
@@ -177,7 +181,8 @@ module _ (bs : List ℕ) (o s b : List ℕ) (n a : ℕ) (r : ReadTo bs o s b n a
         boards-are = take-suc-set b n _ (omega (arith, r .sizes, row-in)) ∙ rw (r .boards-are, board-byte) (sym (tabulate-last (λ i. rowNumber bs i .board) n));
       }
         where
-          step : after (readRow bs (tabulate (rowNumber bs) n 0) a) (λ t. overFields (readRow bs) (split .0) bs (fieldEnd bs a) t) ≡ overFields (readRow bs) (split .0) bs (fieldEnd bs a) (tabulate (rowNumber bs) (suc n) 0)
+          step : after (readRow bs (tabulate (rowNumber bs) n 0) a) (λ t. overFields (readRow bs) (split .0) bs (fieldEnd bs a) t)
+              ≡ overFields (readRow bs) (split .0) bs (fieldEnd bs a) (tabulate (rowNumber bs) (suc n) 0)
           step = ap (λ x. after x (λ t. overFields (readRow bs) (split .0) bs (fieldEnd bs a) t)) (ask-yes (isRow bs a) 14 _ is-row ∙ ap got rows-next)
 
           row : (i : ℕ) → i < suc n → Dec (i ≡ n) → T (isRow bs (rowStart bs i))

@@ -71,7 +71,10 @@ name-is v = (
   λ h. let w = T-and (leb 1 n) (leb n 12 && bytes) .0 h in
       let u = T-and (leb n 12) bytes .0 (w .1) in
       (omega (arith, T-leb 1 n .0 (w .0), length-drop 4 v), omega (arith, T-leb n 12 .0 (u .0), length-drop 4 v), u .1),
-  λ h. T-and (leb 1 n) (leb n 12 && bytes) .1 (T-leb 1 n .1 (omega (arith, length-drop 4 v)), T-and (leb n 12) bytes .1 (T-leb n 12 .1 (omega (arith, length-drop 4 v)), h .2)),
+  λ h. T-and (leb 1 n) (leb n 12 && bytes) .1 (
+    T-leb 1 n .1 (omega (arith, length-drop 4 v)),
+    T-and (leb n 12) bytes .1 (T-leb n 12 .1 (omega (arith, length-drop 4 v)), h .2),
+  ),
 )
   where
     n : ℕ
@@ -124,9 +127,17 @@ module _ (bs : List ℕ) (a : ℕ) where
       pub row-ends : a + 3 + length v ≤ length bs
       row-ends = let t = T-true (whole bs a) .1 w in omega (arith, ap length v-is, length-value bs a t, whole-is bs a .0 t, after-head bs a)
 
-      pub row-found : at bs a ≡ 17 → 5 ≤ length v → length v ≤ 16 → all nameByte (drop 2 (take (length v - 2) (drop 2 v))) ≡ true → Row (a + 3 + length v) ≡ rowAnswer bs a
+      pub row-found : at bs a ≡ 17 → 5 ≤ length v → length v ≤ 16 → all nameByte (drop 2 (take (length v - 2) (drop 2 v))) ≡ true → Row (a + 3 + length v)
+          ≡ rowAnswer bs a
       unfolding rowAnswer
       row-found t l m e =
           let h = T-true (whole bs a) .1 w in
           ap Row (omega (arith, ap length v-is, length-value bs a h, after-head bs a))
-          ∙ sym (choose-yes (isRow bs a) (Row (fieldEnd bs a)) Refused (row-is bs a .1 record { is-whole = h; tag = t; sizes = (omega (arith, ap length v-is), omega (arith, ap length v-is)); name = T-true (all nameByte (drop 4 (value bs a))) .1 (sym (ap (all nameByte) name-part) ∙ e) }))
+          ∙ sym (choose-yes (isRow bs a) (Row (fieldEnd bs a)) Refused
+          (row-is bs a .1 record {
+            is-whole = h;
+            tag = t;
+            sizes = (omega (arith, ap length v-is), omega (arith, ap length v-is));
+            name = T-true
+                (all nameByte (drop 4 (value bs a))) .1 (sym (ap (all nameByte) name-part) ∙ e);
+          }))

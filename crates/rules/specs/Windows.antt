@@ -75,7 +75,8 @@ holdsb r d s i = leZ (pos (r i)) (pos s) && leZ (pos s +ℤ pos 1) (d i)
 unfoldable pub widthOf : ℕ → (ℕ → ℕ) → (ℕ → ℤ) → ℕ → ℕ
 widthOf n r d L = most (λ s. count (holdsb r d s) n) L
 
--- the width of a file with n jobs and limit L, one more than the paper's pathwidth; the deadline is the limit less the tail (laws `deadline-formula`, `deadline-only`)
+-- the width of a file with n jobs and limit L, one more than the paper's pathwidth; the deadline is the limit less the tail (laws `deadline-formula`,
+-- `deadline-only`)
 unfoldable pub width : ℕ → List Need → ℕ → ℕ
 width n needs L =
     let r = releases n needs n in

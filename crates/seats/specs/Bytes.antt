@@ -9,6 +9,7 @@ use borrow.Author.Tests.{eqb-true}
 use lib.Bits.{or-lt}
 use lib.Dec.{eqb}
 use lib.Pow.{pow-mono, pow-lt}
+use Rattle.rules.specs.Sizes.{maxWidth}
 use Rattle.rules.specs.Basics.{all, range}
 use Rattle.laws.specs.Tests.{T-true, T-all}
 use Rattle.laws.specs.Counting.{range-below}
@@ -20,6 +21,7 @@ use Rattle.jobset.specs.Lowest.{below-lowest, lowest-member}
 use Rattle.jobset.specs.Tests.{present}
 use Rattle.threes.specs.Threes.{Eight}
 use Rattle.places.specs.Assign.{Lowest}
+use Rattle.layout.specs.Layout.{placeSets}
 
 -- equal numbers are equal sets
 pub same-set : {x y : ℕ} → x ≡ y → _≡_ {A = Set} (record { bits = x }) (record { bits = y })
@@ -42,15 +44,16 @@ member-lt w S h p m = go (decLt p w)
     go (yes l) = l
     go (no l) = absurd (false≢true (sym (ap (λ (x : ℕ). eqb (x % 2) 1) (div-eq-of-lt (lt-of-lt-of-le h (pow-mono {i = w} {j = p} (omega arith))))) ∙ m))
 
-pub byte-eight : (S : Set) → S .bits < 256 → Eight S
-byte-eight S h = member-lt 8 S h
+pub byte-eight : (S : Set) → S .bits < placeSets → Eight S
+byte-eight S h = member-lt maxWidth S h
 
 -- all eight places
 abbrev pub everyPlace : Set
 everyPlace = record { bits = 255 }
 
-every-place : (p : ℕ) → p < 8 → member everyPlace p ≡ true
-every-place p h = T-true (member everyPlace p) .0 (T-all (member everyPlace) (range 8 0) .0 (unfold all range member digit in tt) p (range-below 8 p .1 h))
+every-place : (p : ℕ) → p < maxWidth → member everyPlace p ≡ true
+every-place p h = T-true (member everyPlace p) .0 (T-all (member everyPlace) (range maxWidth 0) .0 (unfold all range member digit in
+    tt) p (range-below maxWidth p .1 h))
 
 -- the places that S leaves
 abbrev pub freeIn : Set → Set
@@ -60,7 +63,7 @@ free-bits : (S : Set) → freeIn S .bits < 2 ^ 64
 free-bits S = omega (arith, minus-le everyPlace S)
 
 -- a place that is not left is one of S
-not-free : (S : Set) (p : ℕ) → p < 8 → member (freeIn S) p ≡ false → member S p ≡ true
+not-free : (S : Set) (p : ℕ) → p < maxWidth → member (freeIn S) p ≡ false → member S p ≡ true
 not-free S p h n = go (member S p) refl
   where
     go : (b : Bool) → member S p ≡ b → b ≡ true
@@ -68,14 +71,14 @@ not-free S p h n = go (member S p) refl
     go false e = absurd (present (member (freeIn S) p) (in-minus everyPlace S p .1 (every-place p h, e)) n)
 
 -- none is left: the lowest is 8
-pub none-free : (S : Set) → isEmpty (freeIn S) ≡ true → Lowest S 8
+pub none-free : (S : Set) → isEmpty (freeIn S) ≡ true → Lowest S maxWidth
 unfolding isEmpty
 none-free S e =
     let z : freeIn S ≡ empty = ap (λ (x : ℕ). record { bits = x }) (eqb-true (freeIn S .bits) 0 e) in
     record { at-most = omega arith; is-free = λ l. absurd (omega arith); below = λ q l. not-free S q l (ap (λ (R : Set). member R q) z ∙ member-empty q) }
 
 -- some are left: the lowest of them
-pub some-free : (S : Set) (p : ℕ) → p ≡ lowest (freeIn S) → isEmpty (freeIn S) ≡ false → Lowest S p × (p < 8)
+pub some-free : (S : Set) (p : ℕ) → p ≡ lowest (freeIn S) → isEmpty (freeIn S) ≡ false → Lowest S p × (p < maxWidth)
 some-free S p z e =
     let m = lowest-member (freeIn S) (free-bits S) e in
     let l = byte-eight (freeIn S) (omega (arith, minus-le everyPlace S)) (lowest (freeIn S)) (m .1) in rw z (

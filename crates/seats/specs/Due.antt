@@ -8,6 +8,7 @@ use native.Mathlib.Decide.{ℕ-discrete}
 use lib.Dec.{eqb}
 use lib.ListN.{set}
 use lib.Seq.{getD-set-same, getD-set-other}
+use Rattle.rules.specs.Sizes.{maxLimit, maxWidth}
 use Rattle.rules.specs.Basics.{at, range}
 use Rattle.laws.specs.Tests.{T-eqb}
 use Rattle.jobset.specs.declared.Set.{Set}
@@ -24,7 +25,7 @@ unfoldable pub withoutDue : List ℕ → ℕ → List ℕ
 withoutDue words zero = words
 withoutDue words (suc k) = set (withoutDue words k) (dueAt + k) 0
 
-pub without-small : (n : ℕ) (words : List ℕ) (k : ℕ) → k ≤ 65 → Small n words → Small n (withoutDue words k)
+pub without-small : (n : ℕ) (words : List ℕ) (k : ℕ) → k ≤ maxLimit + 1 → Small n words → Small n (withoutDue words k)
 unfolding withoutDue
 without-small n words zero h s = s
 without-small n words (suc k) h s = small-set n (withoutDue words k) (dueAt + k) 0 (without-small n words k (omega arith) s) (omega arith) (λ _. omega arith)
@@ -35,7 +36,7 @@ unfolding withoutDue
 without-other words zero j n = refl
 without-other words (suc k) j n = getD-set-other (withoutDue words k) (dueAt + k) j 0 0 (n k (omega arith)) ∙ without-other words k j (λ t l. n t (omega arith))
 
-without-zero : (n : ℕ) (words : List ℕ) (k t : ℕ) → Small n words → k ≤ 65 → t < k → at (withoutDue words k) (dueAt + t) ≡ 0
+without-zero : (n : ℕ) (words : List ℕ) (k t : ℕ) → Small n words → k ≤ maxLimit + 1 → t < k → at (withoutDue words k) (dueAt + t) ≡ 0
 unfolding withoutDue
 without-zero n words zero t s h l = absurd (omega arith)
 without-zero n words (suc k) t s h l = go (ℕ-discrete t k) (λ q. without-zero n words k t s (omega arith) q)
@@ -56,8 +57,8 @@ range-snoc zero i = let e : i ≡ i + 0 = omega arith in ap (λ (x : ℕ). x ∷
 range-snoc (suc k) i = let e : suc i + k ≡ i + suc k = omega arith in ap (λ (l : List ℕ). i ∷ l)
     (range-snoc k (suc i) ∙ ap (λ (x : ℕ). range k (suc i) ++ x ∷ []) e)
 
-module _ (slots : ℕ) (places tail : List ℕ) (few : slots ≤ 64) where
-  with-small : (n : ℕ) (words : List ℕ) (k : ℕ) → ((i : ℕ) → i < k → at places i < 8) → Small n words → Small n (withDue slots places tail k words)
+module _ (slots : ℕ) (places tail : List ℕ) (few : slots ≤ maxLimit) where
+  with-small : (n : ℕ) (words : List ℕ) (k : ℕ) → ((i : ℕ) → i < k → at places i < maxWidth) → Small n words → Small n (withDue slots places tail k words)
   unfolding withDue
   with-small n words zero low s = s
   with-small n words (suc k) low s = small-place n (withDue slots places tail k words) (dueAt + (slots - at tail k)) (at places k)
@@ -69,7 +70,7 @@ module _ (slots : ℕ) (places tail : List ℕ) (few : slots ≤ 64) where
   with-other words (suc k) j n = place-other (withDue slots places tail k words) (dueAt + (slots - at tail k)) (at places k) j
       (n (slots - at tail k) (omega arith)) ∙ with-other words k j n
 
-  with-is : (n : ℕ) (words : List ℕ) (k t : ℕ) → ((i : ℕ) → i < k → at places i < 8) → Small n words → at words (dueAt + t) ≡ 0
+  with-is : (n : ℕ) (words : List ℕ) (k t : ℕ) → ((i : ℕ) → i < k → at places i < maxWidth) → Small n words → at words (dueAt + t) ≡ 0
       → setAt (withDue slots places tail k words) (dueAt + t) ≡ seatsOf (at places) (λ i. eqb (slots - at tail i) t) (range k 0)
   unfolding withDue seatsOf range
   with-is n words zero t low s z = same-set z
@@ -103,7 +104,7 @@ pub record DueSets (n slots jobs : ℕ) (places tail words after : List ℕ) : T
   pub other : (k : ℕ) → ((t : ℕ) → t ≤ slots → ¬ (k ≡ dueAt + t)) → at after k ≡ at words k
   pub due : (t : ℕ) → t ≤ slots → setAt after (dueAt + t) ≡ seatsOf (at places) (λ i. eqb (slots - at tail i) t) (range jobs 0)
 
-pub due-sets : (n slots jobs : ℕ) (places tail words : List ℕ) → slots ≤ 64 → ((i : ℕ) → i < jobs → at places i < 8) → Small n words
+pub due-sets : (n slots jobs : ℕ) (places tail words : List ℕ) → slots ≤ maxLimit → ((i : ℕ) → i < jobs → at places i < maxWidth) → Small n words
     → DueSets n slots jobs places tail words (dueSets slots jobs places tail words)
 unfolding dueSets
 due-sets n slots jobs places tail words h low s = record {

@@ -7,12 +7,13 @@ use native.Mathlib.Omega.{arith}
 use lib.Dec.{eqb}
 use lib.ListN.{set}
 use lib.Seq.{getD-set-same, getD-set-other}
+use Rattle.rules.specs.Sizes.{maxLimit, maxWidth, maxJobs}
 use Rattle.rules.specs.Basics.{at, range}
 use Rattle.rules.specs.Needs.{Gives}
 use Rattle.laws.specs.Tests.{T-eqb}
 use Rattle.laws.specs.Counting.{range-below}
 use Rattle.jobset.specs.Sets.{setAt}
-use Rattle.layout.specs.Layout.{heldAt, endsAt, dueAt, marksAt, slotsAt, capAt, threeAt, tablesIn, marksIn}
+use Rattle.layout.specs.Layout.{heldAt, endsAt, dueAt, marksAt, slotsAt, capAt, threeAt, tablesIn, marksIn, prevAt, marksRoom}
 use Rattle.places.specs.Seats.{seatsOf}
 use Rattle.places.specs.Windows.{Windows, holdsSlot, held, hold, in-held, in-hold, Room, apart-hold, Leads, giver-released}
 use Rattle.places.specs.Tables.{Due, Shows, ShowsDue}
@@ -41,7 +42,8 @@ in-order W = entering-is W .all
 pub filled-places : {W : Windows} {s : ℕ} {words : List ℕ} → Filled W s words → HasPlaces W
 filled-places {W} F i l o = F .rows .low i (in-order W i .1 l) o
 
-pub filled-shows : {W : Windows} {s : ℕ} {words : List ℕ} → Leads W → (f : HasPlaces W) → s ≤ 64 → Filled W s words → Shows W (seatsBy W f) s (tablesIn words)
+pub filled-shows : {W : Windows} {s : ℕ} {words : List ℕ} → Leads W → (f : HasPlaces W) → s ≤ maxLimit → Filled W s words
+    → Shows W (seatsBy W f) s (tablesIn words)
 unfolding tablesIn
 filled-shows {W} {s} {words} D f few F = record {
   held-is = λ t h. gathered π (held W t) (setAt words (heldAt + t)) (λ i. Unit {0}) (λ i. (i < W .n) × Holds W t i) (seatsBy W f .apart t)
@@ -66,19 +68,20 @@ filled-shows {W} {s} {words} D f few F = record {
     π = placeOf W
 
     prevOf : ℕ → ℕ → ℕ
-    prevOf t i = 259 + 8 * t + placeOf W i
+    prevOf t i = prevAt + maxWidth * t + placeOf W i
 
 -- the rows of marks begin where the tables say
 pub filled-marks : {W : Windows} {s : ℕ} {words : List ℕ} → Filled W s words → (t : ℕ) → t ≤ s → marksIn words t ≡ sizedRows (tablesIn words) t
 unfolding marksIn sizedRows
 filled-marks F t h = ap (λ (x : ℕ). 8 * x) (F .rows .marks t h)
 
-pub filled-mark : {W : Windows} {s : ℕ} {words : List ℕ} → Filled W s words → s ≤ 64 → at words (marksAt + s) ≤ 60000
+pub filled-mark : {W : Windows} {s : ℕ} {words : List ℕ} → Filled W s words → s ≤ maxLimit → at words (marksAt + s) ≤ marksRoom
 filled-mark {W} {s} {words} F h = omega (arith, F .rows .marks s (omega arith), bytes-few (tablesIn words) s)
 
 -- ---- one slot more
 
-pub filled-carry : {W : Windows} {s : ℕ} {words : List ℕ} → Leads W → (b : ℕ) → s ≡ suc b → s < 64 → Filled W s words → Filled W (suc s) (carried words b s)
+pub filled-carry : {W : Windows} {s : ℕ} {words : List ℕ} → Leads W → (b : ℕ) → s ≡ suc b → s < maxLimit → Filled W s words
+    → Filled W (suc s) (carried words b s)
 filled-carry {W} {s} {words} D b next below F = record {
   rows = rows-carry W D b s (orderOf W) words (carried words b s) next below (λ j m. in-order W j .0 m) (λ j m o. F .entered j (in-order W j .0 m) o)
       (carried-is (W .n) words b s next below (F .rows .small)) (F .rows);
@@ -87,7 +90,7 @@ filled-carry {W} {s} {words} D b next below F = record {
 
 -- ---- a number behind the tables, before the base-three numbers
 
-pub filled-beyond : {W : Windows} {s : ℕ} {words : List ℕ} (k v : ℕ) → slotsAt ≤ k → k < threeAt → s ≤ 64 → Filled W s words
+pub filled-beyond : {W : Windows} {s : ℕ} {words : List ℕ} (k v : ℕ) → slotsAt ≤ k → k < threeAt → s ≤ maxLimit → Filled W s words
     → Filled W s (set words k v)
 filled-beyond {W} {s} {words} k v h b few F = record {
   rows = rows-kept W s (orderOf W) words (set words k v) few
@@ -102,11 +105,11 @@ filled-beyond {W} {s} {words} k v h b few F = record {
 pub record Fitting (W : Windows) (filled slots jobs : ℕ) (words places tail : List ℕ) : Type 0 where
   pub leads : Leads W
   pub count : W .n ≡ jobs
-  pub jobs-fit : jobs ≤ 400
+  pub jobs-fit : jobs ≤ maxJobs
   pub rows : Filled W filled words
   pub some : 1 ≤ filled
   pub more : filled ≤ slots
-  pub few : slots ≤ 64
+  pub few : slots ≤ maxLimit
   pub room : Room W slots
   pub in-time : (i : ℕ) → i < jobs → slots ≤ W .d i + W .θ i
   pub places-are : (i : ℕ) → i < jobs → at places i ≡ placeOf W i
@@ -120,7 +123,7 @@ pub record Fitted (W : Windows) (slots : ℕ) (words after : List ℕ) : Type 0 
   pub cap-at : at after capAt ≡ at words capAt
 
 module _ {W : Windows} {filled slots jobs : ℕ} {words places tail : List ℕ} (Q : Fitting W filled slots jobs words places tail) where
-  pub fitting-place : (i : ℕ) → i < jobs → at places i < 8
+  pub fitting-place : (i : ℕ) → i < jobs → at places i < maxWidth
   fitting-place i l = omega (
     arith,
     Q .places-are i l,

@@ -10,6 +10,7 @@ use native.Mathlib.Decide.{decLt}
 use lib.Dec.{T, ltb, eqb}
 use lib.ListN.{length, set, replicate, length-set, getD-replicate}
 use lib.Seq.{getD-set-same, getD-set-other}
+use Rattle.rules.specs.Sizes.{maxLimit, maxJobs}
 use Rattle.rules.specs.Basics.{choose, at, filter, range}
 use Rattle.laws.specs.Tests.{T-ltb, T-eqb, by-choice, choose-no}
 use Rattle.laws.specs.Lists.{filter-mem⁻¹, range-in}
@@ -25,17 +26,17 @@ released release s k i = filter (λ j. eqb (at release j) s) (range k i)
 
 -- the k jobs from i up are linked
 pub record LinkedAll (release : List ℕ) (limit : ℕ) (first next : List ℕ) (k i : ℕ) : Type 0 where
-  pub firsts : length first ≡ 64
-  pub nexts : length next ≡ 400
+  pub firsts : length first ≡ maxLimit
+  pub nexts : length next ≡ maxJobs
   pub chain : (s : ℕ) → s < limit → Linked next (at first s) (released release s k i)
 
-pub linked-none : (release : List ℕ) (limit : ℕ) (first next : List ℕ) (i : ℕ) → first ≡ replicate 64 0 → length next ≡ 400 → limit ≤ 64
+pub linked-none : (release : List ℕ) (limit : ℕ) (first next : List ℕ) (i : ℕ) → first ≡ replicate maxLimit 0 → length next ≡ maxJobs → limit ≤ maxLimit
     → LinkedAll release limit first next 0 i
 unfolding filter range
 linked-none release limit first next i e f h = record {
   firsts = ap length e;
   nexts = f;
-  chain = λ s l. ap (λ (x : List ℕ). at x s) e ∙ getD-replicate 64 s 0 0
+  chain = λ s l. ap (λ (x : List ℕ). at x s) e ∙ getD-replicate maxLimit s 0 0
       (omega arith);
 }
 
@@ -53,7 +54,7 @@ linked-set next number [] j v n c = c
 linked-set next number (i ∷ is) j v n c =
     (c .0, rw (getD-set-other next j i v 0 (n i (List·Memᴰ·head refl))) (linked-set next (at next i) is j v (λ z m. n z (List·Memᴰ·tail m)) (c .1)))
 
-module _ (release : List ℕ) (limit : ℕ) (first next : List ℕ) (k job : ℕ) (h : limit ≤ 64) (l : job < 400)
+module _ (release : List ℕ) (limit : ℕ) (first next : List ℕ) (k job : ℕ) (h : limit ≤ maxLimit) (l : job < maxJobs)
     (L : LinkedAll release limit first next k (suc job)) where
   -- the others come behind it
   behind : (s i : ℕ) → List·Memᴰ i (released release s k (suc job)) → ¬ (i ≡ job)

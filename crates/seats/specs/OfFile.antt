@@ -4,10 +4,11 @@ use mathlib.Core.List.{List}
 use Prim.Native.Nat.{ℕ, _*_, _≤_, _<_}
 use native.Mathlib.Omega.{arith}
 use lib.ListN.{length}
+use Rattle.rules.specs.Sizes.{maxJobs, maxLimit}
 use Rattle.rules.specs.Basics.{at}
 use Rattle.rules.specs.Needs.{Need, NeedsIn, Circle}
 use Rattle.rules.specs.Windows.{release, tail}
-use Rattle.needrows.specs.Rows.{RowsAre}
+use Rattle.needrows.specs.Rows.{RowsAre, rowBytes}
 use Rattle.places.specs.OfFile.{fileWindows, file-leads}
 use Rattle.seats.specs.Enter.{Given}
 
@@ -15,9 +16,9 @@ use Rattle.seats.specs.Enter.{Given}
 pub record FileArrays (jobs : ℕ) (needs : List Need) (limit : ℕ) (rows releases tails : List ℕ) : Type 0 where
   pub needs-in : NeedsIn jobs needs
   pub free : ¬ (Circle needs)
-  pub jobs-fit : jobs ≤ 400
-  pub limit-fits : limit ≤ 64
-  pub rows-fit : 56 * jobs ≤ length rows
+  pub jobs-fit : jobs ≤ maxJobs
+  pub limit-fits : limit ≤ maxLimit
+  pub rows-fit : rowBytes * jobs ≤ length rows
   pub rows-are : RowsAre rows jobs needs
   pub releases-are : (i : ℕ) → i < jobs → at releases i ≡ release jobs needs i
   pub tails-are : (i : ℕ) → i < jobs → at tails i ≡ tail jobs needs i

@@ -7,6 +7,7 @@ use Prim.Native.Nat.{ℕ, zero, suc, _+_, _-_, _≤_, _<_}
 use native.Mathlib.Omega.{arith}
 use native.Mathlib.Decide.{decLt}
 use lib.Dec.{eqb, ltb}
+use Rattle.rules.specs.Sizes.{maxWidth}
 use Rattle.rules.specs.Basics.{most}
 use Rattle.laws.specs.Tests.{T-eqb, T-ltb}
 use Rattle.laws.specs.Counting.{passing, passing-in}
@@ -86,7 +87,7 @@ rest-of W m h = record {
 pub place-lowest : (W : Windows) (xs ys : List ℕ) (i : ℕ) → orderOf W ≡ xs ++ i ∷ ys → Lowest (taken W (placeOf W) xs (W .r i)) (placeOf W i)
 place-lowest W xs ys i e = assigned-at W (orderOf W) xs ys i (entering-is W .distinct) e
 
-differs : (W : Windows) (xs ys : List ℕ) (i j : ℕ) → orderOf W ≡ xs ++ i ∷ ys → List·Memᴰ j xs → W .r i < W .d j → placeOf W i < 8 → ¬
+differs : (W : Windows) (xs ys : List ℕ) (i j : ℕ) → orderOf W ≡ xs ++ i ∷ ys → List·Memᴰ j xs → W .r i < W .d j → placeOf W i < maxWidth → ¬
     (placeOf W j ≡ placeOf W i)
 unfolding taken
 differs W xs ys i j e m h l q = present (member (taken W (placeOf W) xs (W .r i)) (placeOf W i))
@@ -102,7 +103,7 @@ split (x ∷ l) i m = go (List·Memᴰ·cases-cons m) (split l i)
     go (inr k) r = let w = r k in (x ∷ w .0, w .1, ap (λ (z : List ℕ). x ∷ z) (w .2))
 
 -- two jobs of one slot, of which one has a place, have different ones
-pub place-apart : (W : Windows) (s i j : ℕ) → List·Memᴰ i (held W s) → List·Memᴰ j (held W s) → placeOf W i < 8 → placeOf W i ≡ placeOf W j → i ≡ j
+pub place-apart : (W : Windows) (s i j : ℕ) → List·Memᴰ i (held W s) → List·Memᴰ j (held W s) → placeOf W i < maxWidth → placeOf W i ≡ placeOf W j → i ≡ j
 place-apart W s i j a b l q = go (split (orderOf W) i (all i .1 (in-held W s i .0 a .0)))
   where
     all : (k : ℕ) → List·Memᴰ k (orderOf W) ↔ (k < W .n)
@@ -125,7 +126,7 @@ place-apart W s i j a b l q = go (split (orderOf W) i (all i .1 (in-held W s i .
 abbrev pub HasPlaces : Windows → Type 0
 HasPlaces W = Enough W (orderOf W)
 
-pub place-low : (W : Windows) → HasPlaces W → (s i : ℕ) → List·Memᴰ i (held W s) → placeOf W i < 8
+pub place-low : (W : Windows) → HasPlaces W → (s i : ℕ) → List·Memᴰ i (held W s) → placeOf W i < maxWidth
 place-low W f s i m = let w = in-held W s i .0 m in f i (w .0) (omega (arith, w .1, w .2))
 
 abbrev pub seatsBy : (W : Windows) → HasPlaces W → Seats W

@@ -9,6 +9,7 @@ use Prim.Native.Nat.{ℕ, zero, suc, _+_, _-_, _*_, _/_, _≤_, _<_}
 use native.Mathlib.Omega.{arith}
 use native.Mathlib.Decide.{ℕ-discrete}
 use lib.Dec.{T, leb, ltb, eqb}
+use Rattle.rules.specs.Sizes.{maxWidth, maxLimit}
 use Rattle.rules.specs.Basics.{at}
 use Rattle.rules.specs.Needs.{Gives, givesb}
 use Rattle.laws.specs.Tests.{T-and, T-leb, T-ltb, T-eqb}
@@ -63,11 +64,11 @@ T-gives W k t g = let a = T-and (givesb (W .needs) g k) (leb t (W .d g)) in
 -- givers of each job whose windows reach so far
 pub record Rows (W : Windows) (s : ℕ) (xs words : List ℕ) : Type 0 where
   pub small : Small (W .n) words
-  pub low : (i : ℕ) → List·Memᴰ i xs → W .r i < W .d i → placeOf W i < 8
+  pub low : (i : ℕ) → List·Memᴰ i xs → W .r i < W .d i → placeOf W i < maxWidth
   pub held-is : (t : ℕ) → t < s → setAt words (heldAt + t) ≡ seatsOf (placeOf W) (holdsSlot W t) xs
-  pub ends-is : (t : ℕ) → t < 65 → setAt words (endsAt + t) ≡ seatsOf (placeOf W) (endsWith W t) xs
-  pub prev-is : (t i : ℕ) → t < s → List·Memᴰ i xs → Holds W t i → setAt words (prevAt + 8 * t + placeOf W i) ≡ seatsOf (placeOf W) (givesTo W i t) xs
-  pub who-is : (t i : ℕ) → t < s → List·Memᴰ i xs → Holds W t i → at words (whoAt + 8 * t + placeOf W i) ≡ i
+  pub ends-is : (t : ℕ) → t < maxLimit + 1 → setAt words (endsAt + t) ≡ seatsOf (placeOf W) (endsWith W t) xs
+  pub prev-is : (t i : ℕ) → t < s → List·Memᴰ i xs → Holds W t i → setAt words (prevAt + maxWidth * t + placeOf W i) ≡ seatsOf (placeOf W) (givesTo W i t) xs
+  pub who-is : (t i : ℕ) → t < s → List·Memᴰ i xs → Holds W t i → at words (whoAt + maxWidth * t + placeOf W i) ≡ i
   pub marks : (t : ℕ) → t ≤ s → at words (marksAt + t) ≡ rowBytes (tablesIn words) t
 
 -- ---- where the rows of marks begin
@@ -98,7 +99,7 @@ module _ (W : Windows) (D : Leads W) where
   -- ---- a job without a window enters: nothing changes
 
   -- it is in no set
-  module _ (i : ℕ) (shut : W .d i ≤ W .r i) where
+  module _ (i : ℕ) (no-slot : W .d i ≤ W .r i) where
     not-held : (t : ℕ) → T (holdsSlot W t i) → ⊥
     not-held t h = omega (arith, T-holds W t i .0 h)
 
@@ -109,19 +110,19 @@ module _ (W : Windows) (D : Leads W) where
     not-giver k t l h = let w = T-gives W k t i .0 h in omega (arith, w .1, D .sooner i k (w .0))
 
   pub rows-skip : (s : ℕ) (xs words : List ℕ) (i : ℕ) → W .d i ≤ W .r i → Rows W s xs words → Rows W s (xs ++ i ∷ []) words
-  rows-skip s xs words i shut R = record {
+  rows-skip s xs words i no-slot R = record {
     small = R .small;
     low = λ j m o. last-or xs i j m (λ k. R .low j k o) (λ e. absurd (let z : W .r i < W .d i = rw e at o in omega arith));
-    held-is = λ t h. R .held-is t h ∙ sym (seats-skip (placeOf W) (holdsSlot W t) xs i (not-held i shut t));
-    ends-is = λ t h. R .ends-is t h ∙ sym (seats-skip (placeOf W) (endsWith W t) xs i (not-ending i shut t));
+    held-is = λ t h. R .held-is t h ∙ sym (seats-skip (placeOf W) (holdsSlot W t) xs i (not-held i no-slot t));
+    ends-is = λ t h. R .ends-is t h ∙ sym (seats-skip (placeOf W) (endsWith W t) xs i (not-ending i no-slot t));
     prev-is = λ t j h m o. last-or xs i j m
-        (λ k. R .prev-is t j h k o ∙ sym (seats-skip (placeOf W) (givesTo W j t) xs i (not-giver i shut j t (o .0)))) (λ e. absurd (closed j e t o));
+        (λ k. R .prev-is t j h k o ∙ sym (seats-skip (placeOf W) (givesTo W j t) xs i (not-giver i no-slot j t (o .0)))) (λ e. absurd (closed j e t o));
     who-is = λ t j h m o. last-or xs i j m (λ k. R .who-is t j h k o) (λ e. absurd (closed j e t o));
     marks = R .marks;
   }
     where
       closed : (j : ℕ) → j ≡ i → (t : ℕ) → Holds W t j → ⊥
-      closed j e t o = not-held i shut t (T-holds W t i .1 (rw e at o))
+      closed j e t o = not-held i no-slot t (T-holds W t i .1 (rw e at o))
 
   -- several
   pub rows-skips : (s : ℕ) (xs words ys : List ℕ) → ((i : ℕ) → List·Memᴰ i ys → W .d i ≤ W .r i) → Rows W s xs words → Rows W s (xs ++ ys) words
@@ -131,7 +132,8 @@ module _ (W : Windows) (D : Leads W) where
 
   -- ---- a job with a window enters the last row, at a place that is free there
 
-  pub rows-enter : (slot : ℕ) (xs words after : List ℕ) (i givers : ℕ) → slot < 64 → W .r i ≡ slot → slot < W .d i → W .d i ≤ 64 → placeOf W i < 8
+  pub rows-enter : (slot : ℕ) (xs words after : List ℕ) (i givers : ℕ) → slot < maxLimit → W .r i ≡ slot → slot < W .d i → W .d i ≤ maxLimit
+      → placeOf W i < maxWidth
       → member (setAt words (heldAt + slot)) (placeOf W i) ≡ false → _≡_ {A = Set} (record { bits = givers }) (seatsOf (placeOf W) (givesTo W i slot) xs)
       → Seated (W .n) words slot i (placeOf W i) (W .d i) givers after → Rows W (suc slot) xs words → Rows W (suc slot) (xs ++ i ∷ []) after
   unfolding tablesIn
@@ -141,13 +143,14 @@ module _ (W : Windows) (D : Leads W) where
     held-is = λ t h. held t h (ℕ-discrete t slot);
     ends-is = λ t h. ends t h (ℕ-discrete t (W .d i));
     prev-is = λ t j h m q. last-or xs i j m
-        (λ k. same-set (S .other (prevAt + 8 * t + π j) (λ z. omega arith) (λ z. omega arith) (λ z. away t j h k q (omega arith))
+        (λ k. same-set (S .other (prevAt + maxWidth * t + π j) (λ z. omega arith) (λ z. omega arith) (λ z. away t j h k q (omega arith))
         (λ z. omega (arith, R .low j k (omega (arith, q)))))
         ∙ R .prev-is t j h k q ∙ sym (seats-skip π (givesTo W j t) xs i (λ y. let w = T-gives W j t i .0 y in omega (arith, D .sooner i j (w .0), q .0))))
         (λ z. let f : t ≡ slot = omega (arith, rw z at (q .0)) in
         rw (z, f) (same-set (S .prev) ∙ g ∙ sym (seats-skip π (givesTo W i slot) xs i (λ y. omega (arith, D .sooner i i (T-gives W i slot i .0 y .0))))));
     who-is = λ t j h m q. last-or xs i j m
-        (λ k. S .other (whoAt + 8 * t + π j) (λ z. omega arith) (λ z. omega arith) (λ z. omega arith) (λ z. away t j h k q (omega arith)) ∙ R .who-is t j h k q)
+        (λ k. S .other (whoAt + maxWidth * t + π j) (λ z. omega arith) (λ z. omega arith) (λ z. omega arith) (λ z. away t j h k q (omega arith))
+        ∙ R .who-is t j h k q)
         (λ z. let f : t ≡ slot = omega (arith, rw z at (q .0)) in rw (z, f) (S .who));
     marks = λ t h. S .other (marksAt + t) (λ z. omega arith) (λ z. omega arith) (λ z. omega arith) (λ z. omega arith)
         ∙ R .marks t h ∙ bytes-same (tablesIn words) (tablesIn after) t
@@ -158,7 +161,7 @@ module _ (W : Windows) (D : Leads W) where
       π = placeOf W
 
       -- a job that the slot holds has another place
-      away : (t j : ℕ) → t < suc slot → List·Memᴰ j xs → Holds W t j → 8 * t + π j ≡ 8 * slot + π i → ⊥
+      away : (t j : ℕ) → t < suc slot → List·Memᴰ j xs → Holds W t j → maxWidth * t + π j ≡ maxWidth * slot + π i → ⊥
       away t j h m q z =
           let low = R .low j m (omega (arith, q)) in
           let a : t ≡ slot = omega arith in
@@ -172,7 +175,7 @@ module _ (W : Windows) (D : Leads W) where
       held t h (no z) = same-set (S .other (heldAt + t) (λ f. z (omega arith)) (λ f. omega arith) (λ f. omega arith) (λ f. omega arith)) ∙ R .held-is t h
           ∙ sym (seats-skip π (holdsSlot W t) xs i (λ y. omega (arith, T-holds W t i .0 y)))
 
-      ends : (t : ℕ) → t < 65 → Dec (t ≡ W .d i) → setAt after (endsAt + t) ≡ seatsOf π (endsWith W t) (xs ++ i ∷ [])
+      ends : (t : ℕ) → t < maxLimit + 1 → Dec (t ≡ W .d i) → setAt after (endsAt + t) ≡ seatsOf π (endsWith W t) (xs ++ i ∷ [])
       ends t h (yes z) = rw z (S .ends ∙ ap (λ (X : Set). with X (π i)) (R .ends-is (W .d i) (omega arith)) ∙ sym
           (seats-with π (endsWith W (W .d i)) xs i (T-ends W (W .d i) i .1 (refl, omega arith))))
       ends t h (no z) = same-set (S .other (endsAt + t) (λ f. omega arith) (λ f. z (omega arith)) (λ f. omega arith) (λ f. omega arith)) ∙ R .ends-is t h
@@ -180,7 +183,7 @@ module _ (W : Windows) (D : Leads W) where
 
   -- ---- one row more, where each job that has entered with a window did so before it
 
-  pub rows-carry : (b s : ℕ) (xs words after : List ℕ) → s ≡ suc b → s < 64 → ((j : ℕ) → List·Memᴰ j xs → j < W .n) →
+  pub rows-carry : (b s : ℕ) (xs words after : List ℕ) → s ≡ suc b → s < maxLimit → ((j : ℕ) → List·Memᴰ j xs → j < W .n) →
       ((j : ℕ) → List·Memᴰ j xs → W .r j < W .d j → W .r j < s)
       → Carried (W .n) words b s after → Rows W s xs words → Rows W (suc s) xs after
   unfolding tablesIn carriedHeld nextMark rowBytes
@@ -218,7 +221,7 @@ module _ (W : Windows) (D : Leads W) where
       was : (i : ℕ) → List·Memᴰ i xs → Holds W s i → Holds W b i
       was i m q = (omega (arith, entered i m (omega (arith, q))), omega (arith, q .1))
 
-      low : (i : ℕ) → List·Memᴰ i xs → Holds W s i → π i < 8
+      low : (i : ℕ) → List·Memᴰ i xs → Holds W s i → π i < maxWidth
       low i m q = R .low i m (omega (arith, q))
 
       givers : (i : ℕ) → List·Memᴰ i xs → Holds W s i → minus (seatsOf π (givesTo W i b) xs) (seatsOf π (endsWith W b) xs) ≡ seatsOf π (givesTo W i s) xs
@@ -239,17 +242,18 @@ module _ (W : Windows) (D : Leads W) where
       held t h (no z) = same-set (C .other (heldAt + t) (λ f. z (omega arith)) (λ f. omega arith) (λ p k f. omega arith) (λ p k f. omega arith)) ∙ R .held-is t
           (omega arith)
 
-      prev : (t i : ℕ) → t < suc s → List·Memᴰ i xs → Holds W t i → Dec (t ≡ s) → setAt after (prevAt + 8 * t + π i) ≡ seatsOf π (givesTo W i t) xs
+      prev : (t i : ℕ) → t < suc s → List·Memᴰ i xs → Holds W t i → Dec (t ≡ s) → setAt after (prevAt + maxWidth * t + π i) ≡ seatsOf π (givesTo W i t) xs
       prev t i h m q (yes z) = let q′ : Holds W s i = rw z at q in
           rw z (C .prev (π i) (low i m q′) ∙ ap₂ minus (R .prev-is b i (omega arith) m (was i m q′)) (R .ends-is b (omega arith)) ∙ givers i m q′)
       prev t i h m q (no z) = let l = R .low i m (omega (arith, q)) in
-          same-set (C .other (prevAt + 8 * t + π i) (λ f. omega arith) (λ f. omega arith) (λ p k f. omega arith) (λ p k f. omega arith)) ∙ R .prev-is t i
+          same-set (C .other (prevAt + maxWidth * t + π i) (λ f. omega arith) (λ f. omega arith) (λ p k f. omega arith) (λ p k f. omega arith)) ∙ R .prev-is t i
           (omega arith) m q
 
-      who : (t i : ℕ) → t < suc s → List·Memᴰ i xs → Holds W t i → Dec (t ≡ s) → at after (whoAt + 8 * t + π i) ≡ i
+      who : (t i : ℕ) → t < suc s → List·Memᴰ i xs → Holds W t i → Dec (t ≡ s) → at after (whoAt + maxWidth * t + π i) ≡ i
       who t i h m q (yes z) = let q′ : Holds W s i = rw z at q in rw z (C .who (π i) (low i m q′) ∙ R .who-is b i (omega arith) m (was i m q′))
       who t i h m q (no z) = let l = R .low i m (omega (arith, q)) in
-          C .other (whoAt + 8 * t + π i) (λ f. omega arith) (λ f. omega arith) (λ p k f. omega arith) (λ p k f. omega arith) ∙ R .who-is t i (omega arith) m q
+          C .other (whoAt + maxWidth * t + π i) (λ f. omega arith) (λ f. omega arith) (λ p k f. omega arith) (λ p k f. omega arith)
+          ∙ R .who-is t i (omega arith) m q
 
       same-bytes : (t : ℕ) → t ≤ suc s → rowBytes (tablesIn words) t ≡ rowBytes (tablesIn after) t
       same-bytes t h = bytes-same (tablesIn words) (tablesIn after) t
@@ -267,7 +271,7 @@ module _ (W : Windows) (D : Leads W) where
 
 -- ---- words that differ only in the due sets, and behind the tables
 
-pub rows-kept : (W : Windows) (s : ℕ) (xs words after : List ℕ) → s ≤ 64 → Small (W .n) after →
+pub rows-kept : (W : Windows) (s : ℕ) (xs words after : List ℕ) → s ≤ maxLimit → Small (W .n) after →
     ((k : ℕ) → (dueAt ≤ k → k < marksAt → ⊥) → k < slotsAt → at after k ≡ at words k)
     → Rows W s xs words → Rows W s xs after
 unfolding tablesIn
@@ -276,9 +280,10 @@ rows-kept W s xs words after h small same R = record {
   low = R .low;
   held-is = λ t l. same-set (same (heldAt + t) (λ a b. omega arith) (omega arith)) ∙ R .held-is t l;
   ends-is = λ t l. same-set (same (endsAt + t) (λ a b. omega arith) (omega arith)) ∙ R .ends-is t l;
-  prev-is = λ t i l m q. let p = R .low i m (omega (arith, q)) in same-set (same (prevAt + 8 * t + placeOf W i) (λ a b. omega arith) (omega arith))
+  prev-is = λ t i l m q. let p = R .low i m (omega (arith, q)) in same-set (same (prevAt + maxWidth * t + placeOf W i) (λ a b. omega arith) (omega arith))
       ∙ R .prev-is t i l m q;
-  who-is = λ t i l m q. let p = R .low i m (omega (arith, q)) in same (whoAt + 8 * t + placeOf W i) (λ a b. omega arith) (omega arith) ∙ R .who-is t i l m q;
+  who-is = λ t i l m q. let p = R .low i m (omega (arith, q)) in same (whoAt + maxWidth * t + placeOf W i) (λ a b. omega arith) (omega arith)
+      ∙ R .who-is t i l m q;
   marks = λ t l. same (marksAt + t) (λ a b. omega arith) (omega arith) ∙ R .marks t l
       ∙ bytes-same (tablesIn words) (tablesIn after) t (λ u k. same-set (sym (same (heldAt + u) (λ a b. omega arith) (omega arith))));
 }

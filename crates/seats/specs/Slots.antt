@@ -8,11 +8,12 @@ use native.Mathlib.Omega.{arith}
 use native.Mathlib.Decide.{decLt}
 use lib.ListN.{length, set, replicate, length-set}
 use lib.Seq.{getD-set-same, getD-set-other}
+use Rattle.rules.specs.Sizes.{maxJobs, maxLimit}
 use Rattle.rules.specs.Basics.{at, most, choose}
 use Rattle.laws.specs.Counting.{most-ge, most-le}
 use Rattle.laws.specs.Lists.{zeros-at}
 use Rattle.jobset.specs.Sets.{digit, member}
-use Rattle.layout.specs.Layout.{heldAt, endsAt, marksAt, threeAt, tableWords, tablesIn}
+use Rattle.layout.specs.Layout.{heldAt, endsAt, marksAt, threeAt, tableWords, tablesIn, placeSets}
 use Rattle.threes.specs.Threes.{threes, threesTo, entry}
 use Rattle.places.specs.Seats.{seatsOf}
 use Rattle.places.specs.Windows.{Windows, Leads}
@@ -71,7 +72,7 @@ abbrev pub noTables : List ℕ
 noTables = withThrees (set (replicate tableWords 0) (marksAt + 1) 1)
 
 -- no job, in the first slot
-pub none-entered : (W : Windows) → 0 < W .n → Entered W 1 (entering W 0) noTables (replicate 400 0) (replicate 400 0)
+pub none-entered : (W : Windows) → 0 < W .n → Entered W 1 (entering W 0) noTables (replicate maxJobs 0) (replicate maxJobs 0)
 unfolding entering seatsOf tablesIn rowBytes threes threesTo member digit choose
 none-entered W pos = record {
   rows = record {
@@ -86,7 +87,7 @@ none-entered W pos = record {
   places-len = refl;
   places-are = λ i m. absurd (List·Memᴰ·not-nil m);
   givers-len = refl;
-  givers-are = λ k l. same-set (zeros-at 400 k);
+  givers-are = λ k l. same-set (zeros-at maxJobs k);
 }
   where
     zeros : List ℕ
@@ -99,18 +100,18 @@ none-entered W pos = record {
     len = length-set zeros (marksAt + 1) 1
 
     old : (k : ℕ) → k < threeAt → at noTables k ≡ at one k
-    old k l = unfold withThrees in row-other threeAt entry one 256 k (λ p h e. omega arith)
+    old k l = unfold withThrees in row-other threeAt entry one placeSets k (λ p h e. omega arith)
 
     past : (k : ℕ) → k < threeAt → ¬ (k ≡ marksAt + 1) → at noTables k ≡ 0
     past k l n = old k l ∙ getD-set-other zeros (marksAt + 1) k 1 0 n ∙ zeros-at tableWords k
 
     small : Small (W .n) noTables
     small = record {
-      len = unfold withThrees in length-row threeAt entry one 256 ∙ len;
+      len = unfold withThrees in length-row threeAt entry one placeSets ∙ len;
       sets = λ k h. rw (past k (omega arith) (λ e. omega arith)) (omega arith);
       prevs = λ k h l. rw (past k (omega arith) (λ e. omega arith)) (omega arith);
       jobs = λ k h l. rw (past k (omega arith) (λ e. omega arith)) pos;
-      threes = λ b h. unfold withThrees in row-at threeAt entry one 256 b h (omega (arith, len));
+      threes = λ b h. unfold withThrees in row-at threeAt entry one placeSets b h (omega (arith, len));
     }
 
     mark : (t : ℕ) → t ≤ 1 → at noTables (marksAt + t) ≡ rowBytes (tablesIn noTables) t
@@ -120,7 +121,8 @@ none-entered W pos = record {
 
 -- ---- the next slot
 
-pub enter-carry : {W : Windows} {s : ℕ} {words places givers : List ℕ} → Leads W → (b : ℕ) → s ≡ suc b → s < 64 → Entered W s (entering W s) words places givers
+pub enter-carry : {W : Windows} {s : ℕ} {words places givers : List ℕ} → Leads W → (b : ℕ) → s ≡ suc b → s < maxLimit
+    → Entered W s (entering W s) words places givers
     → Entered W (suc s) (entering W s) (carried words b s) places givers
 enter-carry {W} {s} {words} D b next below E = record {
   rows = rows-carry W D b s (entering W s) words (carried words b s) next below (λ j m. in-entering W s j .0 m .0) (λ j m o. in-entering W s j .0 m .1)
@@ -160,7 +162,7 @@ pub record SeatedAll (W : Windows) (limit r : ℕ) (words places : List ℕ) : T
   pub within : r ≤ slotsOf W
   pub enough : (0 < r) ↔ HasPlaces W
   pub filled : 0 < r → Filled W r words
-  pub places-len : 0 < r → length places ≡ 400
+  pub places-len : 0 < r → length places ≡ maxJobs
   pub places-are : 0 < r → (i : ℕ) → i < W .n → W .r i < W .d i → at places i ≡ placeOf W i
 
 pub seated-none : {W : Windows} {limit : ℕ} {words places : List ℕ} → ¬ (HasPlaces W) → SeatedAll W limit 0 words places
@@ -190,10 +192,10 @@ seated-all {W} {r = r} {words = words} D S E = record {
     R = rest-of W r (S .within)
 
     full : Filled W r words
-    full = record { rows = rw (R .whole) (rows-skips W D r (entering W r) words (R .jobs) shut (E .rows)); entered = S .all }
+    full = record { rows = rw (R .whole) (rows-skips W D r (entering W r) words (R .jobs) no-slot (E .rows)); entered = S .all }
       where
-        shut : (i : ℕ) → List·Memᴰ i (R .jobs) → W .d i ≤ W .r i
-        shut i m = go (decLt (W .r i) (W .d i))
+        no-slot : (i : ℕ) → List·Memᴰ i (R .jobs) → W .d i ≤ W .r i
+        no-slot i m = go (decLt (W .r i) (W .d i))
           where
             go : Dec (W .r i < W .d i) → W .d i ≤ W .r i
             go (yes o) = absurd (omega (arith, R .from i m, S .all i (R .from i m .0) o))

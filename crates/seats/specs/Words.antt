@@ -6,10 +6,11 @@ use native.Mathlib.Omega.{arith}
 use native.Mathlib.Decide.{decLt, ℕ-discrete}
 use lib.ListN.{length, set, length-set}
 use lib.Seq.{set-out, getD-set-same, getD-set-other}
+use Rattle.rules.specs.Sizes.{maxWidth, maxLimit}
 use Rattle.rules.specs.Basics.{at}
 use Rattle.jobset.specs.declared.Set.{Set}
 use Rattle.jobset.specs.Sets.{setAt, with}
-use Rattle.layout.specs.Layout.{heldAt, endsAt, marksAt, prevAt, whoAt, slotsAt, threeAt, tableWords, ThreesIn}
+use Rattle.layout.specs.Layout.{heldAt, endsAt, marksAt, prevAt, whoAt, slotsAt, threeAt, tableWords, ThreesIn, placeSets}
 use Rattle.threes.specs.Threes.{entry}
 use Rattle.seats.specs.Bytes.{same-set, with-lt}
 
@@ -27,17 +28,17 @@ at-set P l k v j f g = go (ℕ-discrete j k) (decLt k (length l))
 -- sets of places below 8 are numbers below 256, jobs are below n; and the base-three numbers stand in their region
 pub record Small (n : ℕ) (words : List ℕ) : Type 0 where
   pub len : length words ≡ tableWords
-  pub sets : (k : ℕ) → k < marksAt → at words k < 256
-  pub prevs : (k : ℕ) → prevAt ≤ k → k < whoAt → at words k < 256
+  pub sets : (k : ℕ) → k < marksAt → at words k < placeSets
+  pub prevs : (k : ℕ) → prevAt ≤ k → k < whoAt → at words k < placeSets
   pub jobs : (k : ℕ) → whoAt ≤ k → k < slotsAt → at words k < n
   pub threes : ThreesIn words
 
-pub small-set : (n : ℕ) (words : List ℕ) (k v : ℕ) → Small n words → k < threeAt → (k < marksAt → v < 256) → (prevAt ≤ k → k < whoAt → v < 256) →
+pub small-set : (n : ℕ) (words : List ℕ) (k v : ℕ) → Small n words → k < threeAt → (k < marksAt → v < placeSets) → (prevAt ≤ k → k < whoAt → v < placeSets) →
     (whoAt ≤ k → k < slotsAt → v < n) → Small n (set words k v)
 small-set n words k v s t a b c = record {
   len = length-set words k v ∙ s .len;
-  sets = λ j h. at-set (λ x. x < 256) words k v j (λ e. a (omega arith)) (s .sets j h);
-  prevs = λ j h l. at-set (λ x. x < 256) words k v j (λ e. b (omega arith) (omega arith)) (s .prevs j h l);
+  sets = λ j h. at-set (λ x. x < placeSets) words k v j (λ e. a (omega arith)) (s .sets j h);
+  prevs = λ j h l. at-set (λ x. x < placeSets) words k v j (λ e. b (omega arith) (omega arith)) (s .prevs j h l);
   jobs = λ j h l. at-set (λ x. x < n) words k v j (λ e. c (omega arith) (omega arith)) (s .jobs j h l);
   threes = λ b h. getD-set-other words k (threeAt + b) v 0 (λ e. omega arith) ∙ s .threes b h;
 }
@@ -70,7 +71,7 @@ module _ (to : ℕ) (f : ℕ → ℕ) (words : List ℕ) where
       go (no e) r = getD-set-other (withRow to f m words) (to + m) (to + p) (f m) 0 (λ z. e (omega arith)) ∙ r (omega arith)
 
   -- from the givers of jobs on
-  pub small-row : (n m : ℕ) → Small n words → marksAt ≤ to → to + m ≤ threeAt → ((p : ℕ) → p < m → prevAt ≤ to + p → to + p < whoAt → f p < 256)
+  pub small-row : (n m : ℕ) → Small n words → marksAt ≤ to → to + m ≤ threeAt → ((p : ℕ) → p < m → prevAt ≤ to + p → to + p < whoAt → f p < placeSets)
       → ((p : ℕ) → p < m → whoAt ≤ to + p → to + p < slotsAt → f p < n) → Small n (withRow to f m words)
   unfolding withRow
   small-row n zero s a t g j = s
@@ -80,7 +81,7 @@ module _ (to : ℕ) (f : ℕ → ℕ) (words : List ℕ) where
 
 -- the base-three numbers of all bytes
 unfoldable pub withThrees : List ℕ → List ℕ
-withThrees words = withRow threeAt entry 256 words
+withThrees words = withRow threeAt entry placeSets words
 
 -- ---- one place more in a set
 
@@ -99,32 +100,34 @@ pub place-other : (words : List ℕ) (k p j : ℕ) → ¬ (j ≡ k) → at (with
 unfolding withPlace
 place-other words k p j n = getD-set-other words k j (with (setAt words k) p .bits) 0 n
 
-pub small-place : (n : ℕ) (words : List ℕ) (k p : ℕ) → Small n words → k < marksAt → p < 8 → Small n (withPlace words k p)
+pub small-place : (n : ℕ) (words : List ℕ) (k p : ℕ) → Small n words → k < marksAt → p < maxWidth → Small n (withPlace words k p)
 unfolding withPlace
-small-place n words k p s h l = small-set n words k (with (setAt words k) p .bits) s (omega arith) (λ _. with-lt 8 (setAt words k) p (s .sets k h) l)
+small-place n words k p s h l = small-set n words k (with (setAt words k) p .bits) s (omega arith) (λ _. with-lt maxWidth (setAt words k) p (s .sets k h) l)
     (λ a b. absurd (omega arith)) (λ a b. absurd (omega arith))
 
 -- ---- a job takes a place
 
 -- in slot `slot`, at place p, until its window ends with `last`; `givers` are the places of its givers
 unfoldable pub seated : List ℕ → ℕ → ℕ → ℕ → ℕ → ℕ → List ℕ
-seated words slot job p last givers = set (set (withPlace (withPlace words (heldAt + slot) p) (endsAt + last) p) (prevAt + 8 * slot + p) givers)
-    (whoAt + 8 * slot + p) job
+seated words slot job p last givers = set (set (withPlace (withPlace words (heldAt + slot) p) (endsAt + last) p) (prevAt + maxWidth * slot + p) givers)
+    (whoAt + maxWidth * slot + p) job
 
 -- what then stands where
 pub record Seated (n : ℕ) (words : List ℕ) (slot job p last givers : ℕ) (after : List ℕ) : Type 0 where
   pub small : Small n after
   pub held : setAt after (heldAt + slot) ≡ with (setAt words (heldAt + slot)) p
   pub ends : setAt after (endsAt + last) ≡ with (setAt words (endsAt + last)) p
-  pub prev : at after (prevAt + 8 * slot + p) ≡ givers
-  pub who : at after (whoAt + 8 * slot + p) ≡ job
-  pub other : (k : ℕ) → ¬ (k ≡ heldAt + slot) → ¬ (k ≡ endsAt + last) → ¬ (k ≡ prevAt + 8 * slot + p) → ¬ (k ≡ whoAt + 8 * slot + p) → at after k ≡ at words k
+  pub prev : at after (prevAt + maxWidth * slot + p) ≡ givers
+  pub who : at after (whoAt + maxWidth * slot + p) ≡ job
+  pub other : (k : ℕ) → ¬ (k ≡ heldAt + slot) → ¬ (k ≡ endsAt + last) → ¬ (k ≡ prevAt + maxWidth * slot + p) → ¬ (k ≡ whoAt + maxWidth * slot + p) → at after k
+      ≡ at words k
 
-pub seated-is : (n : ℕ) (words : List ℕ) (slot job p last givers : ℕ) → Small n words → slot < 64 → last ≤ 64 → p < 8 → job < n → givers < 256
+pub seated-is : (n : ℕ) (words : List ℕ) (slot job p last givers : ℕ) → Small n words → slot < maxLimit → last ≤ maxLimit → p < maxWidth → job < n
+    → givers < placeSets
     → Seated n words slot job p last givers (seated words slot job p last givers)
 unfolding seated
 seated-is n words slot job p last givers s a b c d e = record {
-  small = small-set n three (whoAt + 8 * slot + p) job (small-set n two (prevAt + 8 * slot + p) givers
+  small = small-set n three (whoAt + maxWidth * slot + p) job (small-set n two (prevAt + maxWidth * slot + p) givers
       (small-place n one (endsAt + last) p (small-place n words (heldAt + slot) p s (omega arith) c) (omega arith) c) (omega arith)
       (λ h. e) (λ h l. e) (λ h l. absurd (omega arith))) (omega arith) (λ h. absurd (omega arith)) (λ h l. absurd (omega arith)) (λ h l. d);
   held = same-set (past4 (heldAt + slot) (λ z. omega arith) ∙ past3 (heldAt + slot) (λ z. omega arith) ∙ past2 (heldAt + slot) (λ z. omega arith))
@@ -132,10 +135,10 @@ seated-is n words slot job p last givers s a b c d e = record {
   ends = same-set (past4 (endsAt + last) (λ z. omega arith) ∙ past3 (endsAt + last) (λ z. omega arith)) ∙ place-same one (endsAt + last) p
       (omega (arith, s .len, length-place words (heldAt + slot) p))
       ∙ ap (λ (S : Set). with S p) (same-set (past1 (endsAt + last) (λ z. omega arith)));
-  prev = past4 (prevAt + 8 * slot + p) (λ z. omega arith) ∙ getD-set-same two (prevAt + 8 * slot + p) givers 0
+  prev = past4 (prevAt + maxWidth * slot + p) (λ z. omega arith) ∙ getD-set-same two (prevAt + maxWidth * slot + p) givers 0
       (omega (arith, s .len, length-place words (heldAt + slot) p, length-place one (endsAt + last) p));
-  who = getD-set-same three (whoAt + 8 * slot + p) job 0
-      (omega (arith, s .len, length-place words (heldAt + slot) p, length-place one (endsAt + last) p, length-set two (prevAt + 8 * slot + p) givers));
+  who = getD-set-same three (whoAt + maxWidth * slot + p) job 0
+      (omega (arith, s .len, length-place words (heldAt + slot) p, length-place one (endsAt + last) p, length-set two (prevAt + maxWidth * slot + p) givers));
   other = λ k h l m r. past4 k r ∙ past3 k m ∙ past2 k l ∙ past1 k h;
 }
   where
@@ -146,7 +149,7 @@ seated-is n words slot job p last givers s a b c d e = record {
     two = withPlace one (endsAt + last) p
 
     three : List ℕ
-    three = set two (prevAt + 8 * slot + p) givers
+    three = set two (prevAt + maxWidth * slot + p) givers
 
     past1 : (k : ℕ) → ¬ (k ≡ heldAt + slot) → at one k ≡ at words k
     past1 k = place-other words (heldAt + slot) p k
@@ -154,8 +157,8 @@ seated-is n words slot job p last givers s a b c d e = record {
     past2 : (k : ℕ) → ¬ (k ≡ endsAt + last) → at two k ≡ at one k
     past2 k = place-other one (endsAt + last) p k
 
-    past3 : (k : ℕ) → ¬ (k ≡ prevAt + 8 * slot + p) → at three k ≡ at two k
-    past3 k = getD-set-other two (prevAt + 8 * slot + p) k givers 0
+    past3 : (k : ℕ) → ¬ (k ≡ prevAt + maxWidth * slot + p) → at three k ≡ at two k
+    past3 k = getD-set-other two (prevAt + maxWidth * slot + p) k givers 0
 
-    past4 : (k : ℕ) → ¬ (k ≡ whoAt + 8 * slot + p) → at (set three (whoAt + 8 * slot + p) job) k ≡ at three k
-    past4 k = getD-set-other three (whoAt + 8 * slot + p) k job 0
+    past4 : (k : ℕ) → ¬ (k ≡ whoAt + maxWidth * slot + p) → at (set three (whoAt + maxWidth * slot + p) job) k ≡ at three k
+    past4 k = getD-set-other three (whoAt + maxWidth * slot + p) k job 0

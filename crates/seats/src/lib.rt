@@ -27,10 +27,11 @@ ghost use mathlib.Core.List.{map, List·Memᴰ};
 ghost use mathlib.Core.Path.{_≡_};
 ghost use Prim.Native.Nat.{ℕ, _+_, _-_, _*_, _<_, _≤_, min};
 ghost use lib.ListN.{length, replicate};
+ghost use Rattle.rules.specs.Sizes.{maxWidth, maxLimit, maxJobs};
 ghost use Rattle.rules.specs.Basics.{at, most};
 ghost use Rattle.jobset.specs.Sets.{members};
-ghost use Rattle.needrows.specs.Rows.{takersOf};
-ghost use Rattle.layout.specs.Layout.{marksAt, prevAt, tableWords};
+ghost use Rattle.needrows.specs.Rows.{takersOf, rowBytes};
+ghost use Rattle.layout.specs.Layout.{marksAt, prevAt, tableWords, placeSets, marksRoom};
 ghost use Rattle.places.specs.Windows.{Windows};
 ghost use Rattle.seats.specs.Words.{Small, withThrees, withPlace, seated};
 ghost use Rattle.seats.specs.Carry.{stayed, carried};
@@ -46,7 +47,7 @@ const EVERY_PLACE: Set = Set { bits: 255 };
 
 // The set gets one place more.
 fn add_place(tables: &mut [u16; TABLES], i: usize, place: usize)
-    requires { ⌜ (i < tableWords) × (place < 8) × (at (now tables) i < 256) ⌝ }
+    requires { ⌜ (i < tableWords) × (place < maxWidth) × (at (now tables) i < placeSets) ⌝ }
     ensures { λ _. ⌜ now (tables .exit) ≡ withPlace (now (tables .entry)) i place ⌝ }
 {
     let before = set_at(tables, i);
@@ -75,7 +76,7 @@ fn link(
     first: &mut [u16; MAX_SLOTS],
     next: &mut [u16; MAX_JOBS],
 )
-    requires { ⌜ (jobs ≤ 400) × (limit ≤ 64) × (now first ≡ replicate 64 0) × (length (now next) ≡ 400) ⌝ }
+    requires { ⌜ (jobs ≤ maxJobs) × (limit ≤ maxLimit) × (now first ≡ replicate maxLimit 0) × (length (now next) ≡ maxJobs) ⌝ }
     ensures { λ _. ⌜ LinkedAll (now (release .entry)) limit (now (first .exit)) (now (next .exit)) jobs 0 ⌝ }
 {
     let mut number = jobs;
@@ -94,7 +95,7 @@ fn link_job(
     first: &mut [u16; MAX_SLOTS],
     next: &mut [u16; MAX_JOBS],
 )
-    requires { ⌜ (limit ≤ 64) × (job < 400) ⌝ }
+    requires { ⌜ (limit ≤ maxLimit) × (job < maxJobs) ⌝ }
     ensures { λ _. ⌜ (now (first .exit) ≡ linkFirst (now (first .entry)) slot limit job)
         × (now (next .exit) ≡ linkNext (now (first .entry)) (now (next .entry)) slot limit job) ⌝ }
 {
@@ -115,7 +116,7 @@ fn give_word(
     place: usize,
     last: usize,
 )
-    requires { ⌜ ((j : ℕ) → List·Memᴰ j (members takers) → first + j < 400) × (place < 8) ⌝ }
+    requires { ⌜ ((j : ℕ) → List·Memᴰ j (members takers) → first + j < maxJobs) × (place < maxWidth) ⌝ }
     ensures { λ _. ⌜ now (givers .exit) ≡ giveEach (now (release .entry)) place last (map (first +_) (members takers)) (now (givers .entry)) ⌝ }
 {
     let mut rest = takers;
@@ -128,23 +129,14 @@ fn give_word(
 
 // One taker: it enters at its release.
 fn give(givers: &mut [u8; MAX_JOBS], entry: usize, taker: usize, place: usize, last: usize)
-    requires { ⌜ (taker < 400) × (place < 8) ⌝ }
+    requires { ⌜ (taker < maxJobs) × (place < maxWidth) ⌝ }
     ensures { λ _. ⌜ now (givers .exit) ≡ gave (now (givers .entry)) entry taker place last ⌝ }
 {
     if entry <= last {
-        let before = Set {
-            bits: byte(givers[taker]),
-        };
+        let before = Set::of_byte(givers[taker]);
         let after = before.with(place);
         givers[taker] = after.bits as u8;
     }
-}
-
-// A byte, as the number of a set.
-fn byte(b: u8) -> u64
-    ensures { λ r. ⌜ (r ≡ b) × (r < 256) ⌝ }
-{
-    b as u64
 }
 
 // All takers of a giver with this place and deadline.
@@ -157,7 +149,7 @@ fn give_row(
     place: usize,
     last: usize,
 )
-    requires { ⌜ (jobs ≤ 400) × (giver < jobs) × (56 * jobs ≤ length (now rows))
+    requires { ⌜ (jobs ≤ maxJobs) × (giver < jobs) × (rowBytes * jobs ≤ length (now rows))
         × ((k : ℕ) → List·Memᴰ k (takersOf (now rows) jobs giver) → k < jobs) × (place < 8) ⌝ }
     ensures { λ _. ⌜ now (givers .exit) ≡ giveEach (now (release .entry)) place last (takersOf (now (rows .entry)) jobs giver) (now (givers .entry)) ⌝ }
 {
@@ -177,8 +169,8 @@ fn give_row(
 
 // The job enters the slot at the place, and its window ends with its deadline.
 fn seat(tables: &mut [u16; TABLES], slot: usize, job: usize, place: usize, last: usize, before: u8)
-    requires { ⌜ (slot < 64) × (job < 400) × (place < 8) × (last ≤ 64) × ((n : ℕ) × Small n (now tables)) ⌝ }
-    ensures { λ _. ⌜ (now (tables .exit) ≡ seated (now (tables .entry)) slot job place last before) × (before < 256) ⌝ }
+    requires { ⌜ (slot < maxLimit) × (job < maxJobs) × (place < maxWidth) × (last ≤ maxLimit) × ((n : ℕ) × Small n (now tables)) ⌝ }
+    ensures { λ _. ⌜ (now (tables .exit) ≡ seated (now (tables .entry)) slot job place last before) × (before < placeSets) ⌝ }
 {
     add_place(tables, HELD + slot, place);
     add_place(tables, ENDS + last, place);
@@ -229,7 +221,7 @@ fn enter(
 
 // The jobs stay at their places: the givers of each in the slot before are those it had, without those that ended there.
 fn stay(tables: &mut [u16; TABLES], slot: usize)
-    requires { ⌜ (1 ≤ slot) × (slot < 64) × ((p : ℕ) → p < 8 → at (now tables) (prevAt + 8 * (slot - 1) + p) < 256) ⌝ }
+    requires { ⌜ (1 ≤ slot) × (slot < maxLimit) × ((p : ℕ) → p < maxWidth → at (now tables) (prevAt + maxWidth * (slot - 1) + p) < placeSets) ⌝ }
     ensures { λ _. ⌜ now (tables .exit) ≡ stayed (now (tables .entry)) (slot - 1) slot ⌝ }
 {
     let ended = set_at(tables, ENDS + (slot - 1));
@@ -251,7 +243,7 @@ fn stay(tables: &mut [u16; TABLES], slot: usize)
 
 // The slot has what the one before it had, without what ended; and the row of marks behind its own begins where its own ends.
 fn carry(tables: &mut [u16; TABLES], slot: usize)
-    requires { ⌜ (1 ≤ slot) × (slot < 64) × (at (now tables) (marksAt + slot) ≤ 60000) × ((n : ℕ) × Small n (now tables)) ⌝ }
+    requires { ⌜ (1 ≤ slot) × (slot < maxLimit) × (at (now tables) (marksAt + slot) ≤ marksRoom) × ((n : ℕ) × Small n (now tables)) ⌝ }
     ensures { λ _. ⌜ now (tables .exit) ≡ carried (now (tables .entry)) (slot - 1) slot ⌝ }
 {
     let before = set_at(tables, HELD + (slot - 1));
@@ -265,7 +257,7 @@ fn carry(tables: &mut [u16; TABLES], slot: usize)
 
 // The slots in which a job enters: up to the greatest release below the limit.
 fn entries(release: &[u16; MAX_JOBS], jobs: usize, limit: usize) -> usize
-    requires { ⌜ jobs ≤ 400 ⌝ }
+    requires { ⌜ jobs ≤ maxJobs ⌝ }
     ensures { λ r. ⌜ r ≡ most (λ i. min (at (now (release .entry)) i + 1) limit) jobs ⌝ }
 {
     let mut slots = 0;
@@ -308,7 +300,7 @@ pub fn seat_all(
     places: &mut [u8; MAX_JOBS],
     tables: &mut [u16; TABLES],
 ) -> usize
-    requires { ⌜ (1 ≤ jobs) × (1 ≤ limit) × (now places ≡ replicate 400 0) × (now tables ≡ replicate tableWords 0)
+    requires { ⌜ (1 ≤ jobs) × (1 ≤ limit) × (now places ≡ replicate maxJobs 0) × (now tables ≡ replicate tableWords 0)
         × ((W : Windows) × Given W (now rows) (now release) (now tail) jobs limit) ⌝ }
     ensures { λ r. ⌜ ((W : Windows) → Given W (now (rows .entry)) (now (release .entry)) (now (tail .entry)) jobs limit
         → SeatedAll W limit r (now (tables .exit)) (now (places .exit))) ⌝ }
@@ -347,7 +339,7 @@ pub fn seat_all(
 
 // No job is due yet.
 fn clear_due(tables: &mut [u16; TABLES], slots: usize)
-    requires { ⌜ slots ≤ 64 ⌝ }
+    requires { ⌜ slots ≤ maxLimit ⌝ }
     ensures { λ _. ⌜ now (tables .exit) ≡ withoutDue (now (tables .entry)) (slots + 1) ⌝ }
 {
     let mut slot = 0;
@@ -365,7 +357,8 @@ fn set_due(
     places: &[u8; MAX_JOBS],
     tail: &[u16; MAX_JOBS],
 )
-    requires { ⌜ (slots ≤ 64) × (jobs ≤ 400) × ((i : ℕ) → i < jobs → (at (now places) i < 8) × (at (now tail) i ≤ slots)) × ((n : ℕ) × Small n (now tables)) ⌝ }
+    requires { ⌜ (slots ≤ maxLimit) × (jobs ≤ maxJobs) × ((i : ℕ) → i < jobs → (at (now places) i < maxWidth) × (at (now tail) i ≤ slots))
+        × ((n : ℕ) × Small n (now tables)) ⌝ }
     ensures { λ _. ⌜ now (tables .exit) ≡ withDue slots (now (places .entry)) (now (tail .entry)) jobs (now (tables .entry)) ⌝ }
 {
     let mut job = 0;

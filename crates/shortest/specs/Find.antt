@@ -95,7 +95,7 @@ module _ {G : Given} {k : ℕ} (x : At G (suc k)) (time : InTime G (x .s) (x .t)
     done = doneAfter (G .A) (x .s) (x .done) (setOf π′ H S);
     ran = setOf π′ H S;
     state = st;
-    closed = λ i l o. shut i (time i l (⊎-elim (λ p. inl (omega arith)) (λ p. inr (omega arith)) o)) (spot (within G) (x .s) (x .t) S (x .state) i l);
+    closed = λ i l o. closes i (time i l (⊎-elim (λ p. inl (omega arith)) (λ p. inr (omega arith)) o)) (spot (within G) (x .s) (x .t) S (x .state) i l);
     done-is = unfold doneAfter in on-iff (λ i m. done′ i (spot (within G) (x .s) (x .t) S (x .state) i (in-n i m))) (on-union (next-is x time) S-is);
     ran-is = on-iff (λ i m. ran′ i (spot (within G) (x .s) (x .t) S (x .state) i (in-n i m))) S-is;
   }
@@ -106,10 +106,10 @@ module _ {G : Given} {k : ℕ} (x : At G (suc k)) (time : InTime G (x .s) (x .t)
       in-n : (i : ℕ) → List·Memᴰ i H → i < G .W .n
       in-n i m = in-held (G .W) (x .s) i .0 m .0
 
-      shut : (i : ℕ) → at (x .t) i < x .s → Spot (within G) (x .s) (x .t) S i → at (place (x .s) S (x .t)) i < suc (x .s)
-      shut i p (now m e) = omega arith
-      shut i p (earlier n e q) = omega arith
-      shut i p (waits n e q) = omega arith
+      closes : (i : ℕ) → at (x .t) i < x .s → Spot (within G) (x .s) (x .t) S i → at (place (x .s) S (x .t)) i < suc (x .s)
+      closes i p (now m e) = omega arith
+      closes i p (earlier n e q) = omega arith
+      closes i p (waits n e q) = omega arith
 
       done′ : (i : ℕ) → Spot (within G) (x .s) (x .t) S i → ((at (x .t) i < x .s) ⊎ List·Memᴰ i S) ↔ (at (place (x .s) S (x .t)) i < suc (x .s))
       done′ i (now m e) = (λ o. omega arith, λ l. inr m)
@@ -174,7 +174,8 @@ module _ (G : Given) where
   search k s done ran = find (G .A) (triesAt (G .A) (G .cap)) k s done ran
 
   -- what it finds is the best list that the state stands for
-  pub find-best : (k : ℕ) (x : At G k) → Best (G .W .n) (Good (within G) (x .s) (x .t)) (listOf (G .W) (G .Z .place) (x .s) (x .t) (search k (x .s) (x .done) (x .ran)))
+  pub find-best : (k : ℕ) (x : At G k)
+      → Best (G .W .n) (Good (within G) (x .s) (x .t)) (listOf (G .W) (G .Z .place) (x .s) (x .t) (search k (x .s) (x .done) (x .ran)))
   unfolding find listOf placed choose
   find-best zero x = go (isSubset (G .A .due (x .s)) (x .done)) refl
     where
@@ -216,5 +217,5 @@ module _ (G : Given) where
     where
       inside : (u : List ℕ) → Kept (Gives (G .W .needs)) (at u) → Fits (G .W .n) (G .C) u → (i : ℕ) → i < G .W .n → List·Memᴰ i (within G .candidates (at u i))
       inside u k f i l =
-          let b = G .bounds .timely u (G .C) (G .roof) k f i l in
+          let b = G .bounds .timely u (G .C) (G .in-limit) k f i l in
           may-start (G .W) (G .C) (at u i) i .1 (in-held (G .W) (at u i) i .1 (l, G .bounds .early u k i l, b .0), b .1)

@@ -40,7 +40,7 @@ pub record Given : Type 0 where
   pub C : ℕ
   pub limit : ℕ
   pub A : Tables
-  pub roof : C ≤ limit
+  pub in-limit : C ≤ limit
   pub leads : Leads W
   pub bounds : Bounds W limit
   pub ready : Ready W Z C A
@@ -65,7 +65,7 @@ within G = record {
   unplaced = G .limit;
   candidates = mayStart (G .W) (G .C);
   needs-in = G .leads .needs-in;
-  roof = G .roof;
+  roof = G .in-limit;
   rising = λ s. filter-rising (λ i. ltb (s + G .W .θ i) (G .C)) (held (G .W) s) (held-rising (G .W) s);
   candidates-in = λ s j m. in-held (G .W) s j .0 (may-start (G .W) (G .C) s j .0 m .0) .0;
 }

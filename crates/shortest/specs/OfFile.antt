@@ -1,11 +1,11 @@
--- The search over places on the windows of a file: what it asks of them holds of a file without circles that is not too wide, and it gives
--- the file's best start list. Assumes nothing.
+-- The search over places on the windows of a file: what it asks of them holds of a file without circles that is not too wide. Assumes nothing.
 use mathlib.Core.Path.{_≡_, ap}
 use mathlib.Core.Logic.{_↔_}
 use mathlib.Core.List.{List}
 use Prim.Native.Nat.{ℕ, _+_, _-_, _*_, _≤_, _<_}
 use native.Mathlib.Omega.{arith}
 use lib.ListN.{length}
+use Rattle.rules.specs.Sizes.{maxWidth}
 use Rattle.rules.specs.Basics.{at, range, count}
 use Rattle.rules.specs.Needs.{Need, NeedsIn}
 use Rattle.rules.specs.Program.{slots}
@@ -52,16 +52,16 @@ module _ (n : ℕ) (needs : List Need) (limit : ℕ) (needs-in : NeedsIn n needs
       (λ t. let v = w .0 t in simp tests (v .0, omega (arith, v .1)))))
 
   -- so no slot below the limit holds more than eight where the file is not too wide
-  file-narrow : width n needs limit ≤ 8 → Narrow (fileWindows n needs limit) limit
+  file-narrow : width n needs limit ≤ maxWidth → Narrow (fileWindows n needs limit) limit
   file-narrow w = record {
     eight = λ s h. omega (arith, held-count s, most-ge (λ s. count (window (release n needs) (tail n needs) limit s) n) limit s h, width-window n needs limit);
   }
 
   -- and places given in an order by release are enough exactly then
-  pub wide-iff : (order : List ℕ) → Entering (fileWindows n needs limit) order → Enough (fileWindows n needs limit) order ↔ (width n needs limit ≤ 8)
+  pub wide-iff : (order : List ℕ) → Entering (fileWindows n needs limit) order → Enough (fileWindows n needs limit) order ↔ (width n needs limit ≤ maxWidth)
   unfolding fileWindows
   wide-iff order en = (
-    λ f. rw (width-window n needs limit) (most-le (λ s. count (window (release n needs) (tail n needs) limit s) n) limit 8 (λ s h.
+    λ f. rw (width-window n needs limit) (most-le (λ s. count (window (release n needs) (tail n needs) limit s) n) limit maxWidth (λ s h.
         omega (arith, held-count s, seats-eight (fileWindows n needs limit) (assigned-seats (fileWindows n needs limit) order en f) s))),
     λ w. narrow-enough (fileWindows n needs limit) order en (λ i l o. file-narrow w .eight (release n needs i) (omega arith)),
   )

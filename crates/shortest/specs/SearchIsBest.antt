@@ -46,11 +46,11 @@ module _ (W : Windows) (Z : Seats W) (limit : ℕ) (leads : Leads W) (bounds : B
   abbrev bestList : Option (List ℕ)
   bestList = best (W .n) (runsb (W .n) (W .needs) cap) limit
 
-  module _ (A : Tables) (C : ℕ) (roof : C ≤ limit) (ready : Ready W Z C A) where
+  module _ (A : Tables) (C : ℕ) (in-limit : C ≤ limit) (ready : Ready W Z C A) where
     -- the search gives the best of all lists that keep the rules and the cap, and fit
     pub run-best : Best (W .n) (λ u. Runs (W .n) (W .needs) cap u × Fits (W .n) C u) (run W (Z .place) limit A cap C)
     unfolding run
-    run-best = start-best (record { W = W; Z = Z; cap = cap; C = C; limit = limit; A = A; roof = roof; leads = leads; bounds = bounds; ready = ready })
+    run-best = start-best (record { W = W; Z = Z; cap = cap; C = C; limit = limit; A = A; in-limit = in-limit; leads = leads; bounds = bounds; ready = ready })
 
     -- the list of the plan
     abbrev list : List ℕ
@@ -92,4 +92,4 @@ module _ (W : Windows) (Z : Seats W) (limit : ℕ) (leads : Leads W) (bounds : B
         -- and the sets of the plan, written into an array of m zeros, are its starts
         pub plan-written : (m : ℕ) → W .n ≤ m
             → written A 0 (planOf A cap C .sets) (replicate m 0) ≡ tabulate (at (placed W (Z .place) 0 (planOf A cap C .sets) (replicate (W .n) limit))) m 0
-        plan-written m h = plan-starts W Z C A (ready .shows) cap limit m h roof (found .0 .1)
+        plan-written m h = plan-starts W Z C A (ready .shows) cap limit m h in-limit (found .0 .1)

@@ -160,7 +160,7 @@ module _ (W : Windows) (π : ℕ → ℕ) where
   -- an array of m zeros has, after the sets of a plan, the starts of its list, and zeros behind them
   pub starts-are : (sets : List ℕ) (limit C m : ℕ) → W .n ≤ m → C ≤ limit → Fits (W .n) C (placed W π 0 sets (replicate (W .n) limit))
       → placed W π 0 sets (replicate m 0) ≡ tabulate (at (placed W π 0 sets (replicate (W .n) limit))) m 0
-  starts-are sets limit C m n-le roof fits =
+  starts-are sets limit C m n-le in-limit fits =
       ext-getD 0 a (tabulate (at t) m 0) (len ∙ sym (length-tabulate (at t) m 0))
       (λ i l. each i (omega (arith, len)) (decLt i (W .n)) ∙ sym (tabulate-at (at t) m 0 i 0 (omega (arith, len)) ∙ ap (at t) (omega arith)))
     where
@@ -188,7 +188,7 @@ module _ (W : Windows) (π : ℕ → ℕ) where
 pub plan-starts : (W : Windows) (Z : Seats W) (C : ℕ) (A : Tables) → Shows W Z C A → (cap limit m : ℕ) → W .n ≤ m → C ≤ limit
     → Fits (W .n) C (placed W (Z .place) 0 (planOf A cap C .sets) (replicate (W .n) limit))
     → written A 0 (planOf A cap C .sets) (replicate m 0) ≡ tabulate (at (placed W (Z .place) 0 (planOf A cap C .sets) (replicate (W .n) limit))) m 0
-plan-starts W Z C A sh cap limit m n-le roof fits =
+plan-starts W Z C A sh cap limit m n-le in-limit fits =
     let p = plan-proper W Z C A sh cap in
     written-is W Z C A sh (planOf A cap C .sets) 0 (omega (arith, p .short)) (p .of-places) (replicate m 0)
-    ∙ starts-are W (Z .place) (planOf A cap C .sets) limit C m n-le roof fits
+    ∙ starts-are W (Z .place) (planOf A cap C .sets) limit C m n-le in-limit fits

@@ -394,7 +394,8 @@ module _ {G : Given} {k : ℕ} (x : At G (suc k)) (time : InTime G (x .s) (x .t)
         )
 
     maximal-size : length R ≡ mostOf (G .cap) cs
-    maximal-size = most-is (G .cap) cs .2 (length R) (mx .allowed .few R R-once (λ i. R-is i .0)) (legal-fits L ok R R-once (λ i. R-is i .0)) (go (decLt (G .cap) (fitOf cs)))
+    maximal-size = most-is (G .cap) cs .2 (length R) (mx .allowed .few R R-once (λ i. R-is i .0)) (legal-fits L ok R R-once (λ i. R-is i .0))
+        (go (decLt (G .cap) (fitOf cs)))
       where
         go : Dec (G .cap < fitOf cs) → (G .cap ≤ length R) ⊎ (fitOf cs ≤ length R)
         go (yes l) = inl (omega (arith, full-only J (x .s) (x .t) F D F-is D-is F-once D-once (omega (arith, fit-is)) L mx R R-once R-is))
@@ -434,7 +435,8 @@ module _ {G : Given} {k : ℕ} (x : At G (suc k)) (time : InTime G (x .s) (x .t)
       m = number L (ok L mx)
 
   -- so the sets tried are just these
-  pub tries-maximal : TriesMaximal (within G) (x .s) (x .t) (map (jobsOf (G .Z .place) (held (G .W) (x .s))) (triesAt (G .A) (G .cap) (x .s) (x .done) (x .ran)))
+  pub tries-maximal : TriesMaximal (within G) (x .s) (x .t)
+      (map (jobsOf (G .Z .place) (held (G .W) (x .s))) (triesAt (G .A) (G .cap) (x .s) (x .done) (x .ran)))
   unfolding triesAt
   tries-maximal = record {
     maximal = map-mem⁻¹ (Maximal J (x .s) (x .t)) (jobsOf π H) sets (λ S w.

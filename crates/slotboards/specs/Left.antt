@@ -6,6 +6,7 @@ use Prim.Native.Nat.{ℕ, zero, suc, _+_, _≤_, _<_}
 use native.Mathlib.Omega.{arith}
 use lib.Dec.{T, lit<}
 use lib.ListN.{length-map}
+use Rattle.rules.specs.Sizes.{maxWidth}
 use Rattle.rules.specs.Basics.{all, range}
 use Rattle.laws.specs.Tests.{T-all, T-true}
 use Rattle.laws.specs.Lists.{map-mem, range-in, range-all, range-rising}
@@ -37,16 +38,17 @@ pub lowest-of : (S : Set) → ((q : ℕ) → member S q ≡ true → q < 64) →
 lowest-of S low e = lowest-member S (number-low S 64 low) e
 
 -- one of 63 boards is left where those not left are of eight places
-pub some-left : (free : Set) (used : ℕ → ℕ) → ((c : ℕ) → 1 ≤ c → c < 64 → member free c ≡ false → (p : ℕ) × (p < 8) × (used p ≡ c)) → isEmpty free ≡ false
+pub some-left : (free : Set) (used : ℕ → ℕ) → ((c : ℕ) → 1 ≤ c → c < 64 → member free c ≡ false → (p : ℕ) × (p < maxWidth) × (used p ≡ c)) → isEmpty free
+    ≡ false
 some-left free used taken = absent (isEmpty free) (λ e. omega (
   arith,
   length-range 9 1,
-  length-range 8 0,
-  length-map (range 8 0) used,
-  pigeonhole (range 9 1) (map used (range 8 0)) (rising-distinct (range 9 1) (range-rising 9 1)) (λ c m. of-place c (range-in 9 1 c m) e),
+  length-range maxWidth 0,
+  length-map (range maxWidth 0) used,
+  pigeonhole (range 9 1) (map used (range maxWidth 0)) (rising-distinct (range 9 1) (range-rising 9 1)) (λ c m. of-place c (range-in 9 1 c m) e),
 ))
   where
-    of-place : (c : ℕ) → (1 ≤ c) × (c < 1 + 9) → isEmpty free ≡ true → List·Memᴰ c (map used (range 8 0))
+    of-place : (c : ℕ) → (1 ≤ c) × (c < 1 + 9) → isEmpty free ≡ true → List·Memᴰ c (map used (range maxWidth 0))
     of-place c h e =
         let w = taken c (h .0) (omega arith) (absent (member free c) (empty-says free .0 e c)) in
-        rw (sym (w .2)) (map-mem used (range 8 0) (w .0) (range-below 8 (w .0) .1 (w .1)))
+        rw (sym (w .2)) (map-mem used (range maxWidth 0) (w .0) (range-below maxWidth (w .0) .1 (w .1)))

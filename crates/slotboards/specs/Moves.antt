@@ -8,6 +8,7 @@ use native.Mathlib.Decide.{ℕ-discrete}
 use native.Mathlib.Omega.{arith}
 use lib.ListN.{length, set, length-set}
 use lib.Seq.{getD-set-same, getD-set-other}
+use Rattle.rules.specs.Sizes.{maxJobs}
 use Rattle.rules.specs.Basics.{at}
 use Rattle.rules.specs.Needs.{Gives}
 use Rattle.laws.specs.BoardWords.{Inherits, TakesFirst, LowestLeft, lowest-same}
@@ -42,7 +43,7 @@ module _ {n : ℕ} {words path : List ℕ} {count : ℕ} (P : Plan n words path 
 
   -- the places that Done says have their boards; a are the boards before the slot
   pub record State (Done : ℕ → Type 0) (z : Filling) : Type 0 where
-    pub size : length (z .boards) ≡ 400
+    pub size : length (z .boards) ≡ maxJobs
     pub small : Below64 (z .boards)
     pub here : (p : ℕ) → Done p → Here p
     pub kept : (x : ℕ) → ((p : ℕ) → Done p → job p ≡ x → ⊥) → at (z .boards) x ≡ at a x

@@ -4,6 +4,7 @@ use mathlib.Core.Bool.{Bool, true, false}
 use mathlib.Core.List.{List}
 use Prim.Native.Nat.{ℕ, zero, suc, _+_, _-_, _<_}
 use native.Mathlib.Omega.{arith}
+use Rattle.rules.specs.Sizes.{maxWidth}
 use Rattle.rules.specs.Basics.{at}
 use Rattle.rules.specs.Needs.{Gives}
 use Rattle.rules.specs.Program.{slots}
@@ -54,7 +55,7 @@ module _ {n : ℕ} {words path : List ℕ} {count : ℕ} (P : Plan n words path 
 
   -- each of these places has a giver
   near-gives : (s p q : ℕ) → s < count → member (setAt path s) p ≡ true → member (nearTo words path s p) q ≡ true
-      → (q < 8) × Gives needs (tablesIn words .who (s - 1) q) (tablesIn words .who s p) × (at t (tablesIn words .who (s - 1) q) + 1 ≡ s)
+      → (q < maxWidth) × Gives needs (tablesIn words .who (s - 1) q) (tablesIn words .who s p) × (at t (tablesIn words .who (s - 1) q) + 1 ≡ s)
   unfolding nearAt lastOf
   near-gives zero p q l m k = absurd (present (member empty q) (in-intersection (tablesIn words .prev 0 p) empty q .0 k .1) (member-empty q))
   near-gives (suc s) p q l m k =

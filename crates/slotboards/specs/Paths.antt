@@ -9,6 +9,7 @@ use native.Mathlib.Numerals.{add-one}
 use native.Mathlib.Omega.{arith}
 use lib.ListN.{length, set, replicate, length-set, length-replicate}
 use lib.Seq.{getD-set-same, getD-set-other}
+use Rattle.rules.specs.Sizes.{maxLimit, maxWidth}
 use Rattle.rules.specs.Basics.{at}
 use Rattle.laws.specs.Lists.{zeros-at}
 use Rattle.jobset.specs.declared.Set.{Set}
@@ -17,9 +18,10 @@ use Rattle.jobset.specs.Membership.{member-empty, in-one, in-union}
 use Rattle.jobset.specs.Tests.{present}
 use Rattle.places.specs.Rows.{number-low}
 use Rattle.slotboards.specs.Rows.{PathIn, pathOf}
+use Rattle.layout.specs.Layout.{placeSets}
 
 module _ (starts places : List ℕ) where
-  pub path-none : pathOf starts places 0 ≡ replicate 64 0
+  pub path-none : pathOf starts places 0 ≡ replicate maxLimit 0
   unfolding pathOf
   path-none = refl
 
@@ -31,13 +33,13 @@ module _ (starts places : List ℕ) where
   unfolding pathOf
   path-turn i = rw (add-one i)
 
-  path-size : (n : ℕ) → length (pathOf starts places n) ≡ 64
+  path-size : (n : ℕ) → length (pathOf starts places n) ≡ maxLimit
   unfolding pathOf
-  path-size zero = length-replicate {A = ℕ} 64 0
+  path-size zero = length-replicate {A = ℕ} maxLimit 0
   path-size (suc n) = length-set (pathOf starts places n) (at starts n) (pathMore n .bits) ∙ path-size n
 
   -- the set of slot s with job m, where that is its slot and where it is not
-  same-slot : (m s : ℕ) → s < 64 → s ≡ at starts m → setAt (pathOf starts places (suc m)) s ≡ with (setAt (pathOf starts places m) s) (at places m)
+  same-slot : (m s : ℕ) → s < maxLimit → s ≡ at starts m → setAt (pathOf starts places (suc m)) s ≡ with (setAt (pathOf starts places m) s) (at places m)
   unfolding pathOf
   same-slot m s l e =
       let v = with (setAt (pathOf starts places m) s) (at places m) .bits in
@@ -70,7 +72,7 @@ module _ (starts places : List ℕ) where
   -- and nothing else
   pub path-from : (n s p : ℕ) → PathIn starts places n → member (setAt (pathOf starts places n) s) p ≡ true → (i : ℕ) × JobAt n s p i
   unfolding with
-  path-from zero s p h m = absurd (present (member empty p) (unfold pathOf in rw (zeros-at 64 s) at m) (member-empty p))
+  path-from zero s p h m = absurd (present (member empty p) (unfold pathOf in rw (zeros-at maxLimit s) at m) (member-empty p))
   path-from (suc k) s p h m = go (ℕ-discrete s (at starts k)) (path-from k s p (λ j l. h j (omega arith)))
     where
       more : (i : ℕ) × JobAt k s p i → (i : ℕ) × JobAt (suc k) s p i
@@ -82,8 +84,9 @@ module _ (starts places : List ℕ) where
       go (no e) r = more (r (rw (other-slot k s e) at m))
 
   -- so each set is a byte
-  path-byte : (n s : ℕ) → PathIn starts places n → at (pathOf starts places n) s < 256
-  path-byte n s h = number-low (setAt (pathOf starts places n) s) 8 (λ p m. let w = path-from n s p h m in let l = h (w .0) (w .1 .0) in omega (arith, w .1 .2))
+  path-byte : (n s : ℕ) → PathIn starts places n → at (pathOf starts places n) s < placeSets
+  path-byte n s h = number-low (setAt (pathOf starts places n) s) maxWidth (λ p m. let w = path-from n s p h m in let l = h (w .0) (w .1 .0) in
+      omega (arith, w .1 .2))
 
-  pub more-byte : (n i : ℕ) → PathIn starts places n → i < n → pathMore i .bits < 256
+  pub more-byte : (n i : ℕ) → PathIn starts places n → i < n → pathMore i .bits < placeSets
   more-byte n i h l = rw (ap (λ (S : Set). S .bits) (same-slot i (at starts i) (h i l .0) refl)) at (path-byte (suc i) (at starts i) (λ j k. h j (omega arith)))

@@ -6,6 +6,7 @@ use mathlib.Core.Bool.{true, false}
 use mathlib.Core.List.{List, [], _∷_}
 use Prim.Native.Nat.{ℕ, zero, suc, _-_, _≤_, _<_}
 use lib.ListN.{length, set, replicate}
+use Rattle.rules.specs.Sizes.{maxJobs, maxLimit, maxWidth}
 use Rattle.rules.specs.Basics.{choose, at, largest}
 use Rattle.rules.specs.Needs.{Need, Gives, NeedsIn}
 use Rattle.rules.specs.Program.{slots, Kept}
@@ -95,20 +96,20 @@ placeSlots A path (suc s) boards = placeSlot A s (lastOf path s) (setAt path s) 
 
 -- a 0 for each job: none has a board yet
 unfoldable pub blank : List ℕ
-blank = replicate 400 0
+blank = replicate maxJobs 0
 
 -- ---- what is given about the arrays
 
 -- n jobs with these needs start as t says, in so many slots, and keep the rules; the set of slot s in the path has the places of its jobs,
 -- and the tables have at these places the jobs and their givers in the slot before
 pub record Placeable (n : ℕ) (needs : List Need) (t words path : List ℕ) (count : ℕ) : Type 0 where
-  pub few : n ≤ 400
-  pub slots-few : count ≤ 64
+  pub few : n ≤ maxJobs
+  pub slots-few : count ≤ maxLimit
   pub slots-are : slots t ≡ count
   pub len : length t ≡ n
   pub needs-in : NeedsIn n needs
   pub kept : Kept (Gives needs) (at t)
-  pub at-place : (s p : ℕ) → s < count → member (setAt path s) p ≡ true → (p < 8) × (tablesIn words .who s p < n) × (at t (tablesIn words .who s p) ≡ s)
+  pub at-place : (s p : ℕ) → s < count → member (setAt path s) p ≡ true → (p < maxWidth) × (tablesIn words .who s p < n) × (at t (tablesIn words .who s p) ≡ s)
   pub of-job : (i : ℕ) → i < n → (p : ℕ) × (member (setAt path (at t i)) p ≡ true) × (tablesIn words .who (at t i) p ≡ i)
   pub apart : (s p q : ℕ) → s < count → member (setAt path s) p ≡ true → member (setAt path s) q ≡ true
       → tablesIn words .who s p ≡ tablesIn words .who s q → p ≡ q
@@ -134,14 +135,15 @@ Below64 boards = (x : ℕ) → at boards x < 64
 
 -- the places are of slot s, of jobs that the boards' array has
 abbrev pub HereIn : List ℕ → ℕ → Set → Type 0
-HereIn words s jobs = (p : ℕ) → member jobs p ≡ true → (p < 8) × (tablesIn words .who s p < 400)
+HereIn words s jobs = (p : ℕ) → member jobs p ≡ true → (p < maxWidth) × (tablesIn words .who s p < maxJobs)
 
 -- the places are of the slot before s
 abbrev pub LastIn : List ℕ → ℕ → Set → Type 0
-LastIn words s last = (q : ℕ) → member last q ≡ true → (1 ≤ s) × (q < 8) × (tablesIn words .who (s - 1) q < 400)
+LastIn words s last = (q : ℕ) → member last q ≡ true → (1 ≤ s) × (q < maxWidth) × (tablesIn words .who (s - 1) q < maxJobs)
 
 -- each of the places finds a board left
 abbrev pub Fits : List ℕ → ℕ → List ℕ → Filling → Type 0
 Fits words s [] z = Unit {0}
 Fits words s (p ∷ ps) z =
-    (p < 8) × (tablesIn words .who s p < 400) × (isEmpty (z .free) ≡ false) × (lowest (z .free) < 64) × Fits words s ps (takeLowest (tablesIn words) s p z)
+    (p < maxWidth) × (tablesIn words .who s p < maxJobs) × (isEmpty (z .free) ≡ false) × (lowest (z .free) < 64)
+    × Fits words s ps (takeLowest (tablesIn words) s p z)

@@ -6,6 +6,7 @@ use native.Mathlib.Decide.{decLt}
 use native.Mathlib.Omega.{arith}
 use lib.ListN.{take, length-take, length-replicate, List·getD-eq-default}
 use lib.Seq.{getD-take}
+use Rattle.rules.specs.Sizes.{maxJobs}
 use Rattle.rules.specs.Basics.{at, most, largest}
 use Rattle.rules.specs.Needs.{Need}
 use Rattle.rules.specs.Boards.{boards}
@@ -30,9 +31,9 @@ module _ {n : ℕ} {words path : List ℕ} {count : ℕ} (P : Plan n words path 
   pub slots-given : (s : ℕ) → s ≤ count → Given n needs t s (placeSlots (tablesIn words) path s blank)
   unfolding placeSlots blank
   slots-given zero l = record {
-    size = length-replicate {A = ℕ} 400 0;
-    small = λ x. omega (arith, zeros-at 400 x);
-    behind = λ i k. zeros-at 400 i;
+    size = length-replicate {A = ℕ} maxJobs 0;
+    small = λ x. omega (arith, zeros-at maxJobs x);
+    behind = λ i k. zeros-at maxJobs i;
     handed = λ g i b k e. absurd (omega arith);
     lowest = λ i k v w. absurd (omega arith);
   }

@@ -5,6 +5,7 @@ use mathlib.Core.Bool.{true}
 use mathlib.Core.List.{List, [], _∷_, map}
 use Prim.Native.Nat.{ℕ, zero, suc, _+_, _≤_, _<_}
 use lib.ListN.{length, set, getD, replicate}
+use Rattle.rules.specs.Sizes.{maxJobs, maxLimit, maxWidth}
 use Rattle.rules.specs.Basics.{at, largest}
 use Rattle.rules.specs.Needs.{Need, Gives, NeedsIn}
 use Rattle.rules.specs.Program.{slots, Kept}
@@ -19,12 +20,12 @@ use Rattle.slotboards.specs.declared.Columns.{Columns}
 
 -- the jobs start as t says, in so many slots, and keep the rules; each job has a place, where the tables have the job and its givers in the slot before
 pub record Seated (needs : List Need) (t words places : List ℕ) (count : ℕ) : Type 0 where
-  pub few : length t ≤ 400
-  pub slots-few : count ≤ 64
+  pub few : length t ≤ maxJobs
+  pub slots-few : count ≤ maxLimit
   pub slots-are : slots t ≡ count
   pub needs-in : NeedsIn (length t) needs
   pub kept : Kept (Gives needs) (at t)
-  pub place-low : (i : ℕ) → i < length t → at places i < 8
+  pub place-low : (i : ℕ) → i < length t → at places i < maxWidth
   pub who-is : (i : ℕ) → i < length t → tablesIn words .who (at t i) (at places i) ≡ i
   pub givers : (g i : ℕ) → g < length t → i < length t → at t g + 1 ≡ at t i
       → (member (tablesIn words .prev (at t i) (at places i)) (at places g) ≡ true) ↔ Gives needs g i
@@ -64,11 +65,11 @@ pub record RowsBoarded (rows : List JobRecord) (words places : List ℕ) (count 
 
 -- the first jobs start in one of 64 slots, at one of eight places
 abbrev pub PathIn : List ℕ → List ℕ → ℕ → Type 0
-PathIn starts places n = (i : ℕ) → i < n → (at starts i < 64) × (at places i < 8)
+PathIn starts places n = (i : ℕ) → i < n → (at starts i < maxLimit) × (at places i < maxWidth)
 
 -- the set of the places of the first jobs, for each slot
 unfoldable pub pathOf : List ℕ → List ℕ → ℕ → List ℕ
-pathOf starts places zero = replicate 64 0
+pathOf starts places zero = replicate maxLimit 0
 pathOf starts places (suc i) =
     let before = pathOf starts places i in
     set before (at starts i) (with (setAt before (at starts i)) (at places i) .bits)

@@ -8,6 +8,7 @@ use native.Mathlib.Numerals.{add-one}
 use native.Mathlib.Omega.{arith}
 use lib.ListN.{length, set, length-set, length-map, length-replicate, List·getD-map}
 use lib.Seq.{ext-getD, getD-set-same, getD-set-other}
+use Rattle.rules.specs.Sizes.{maxJobs}
 use Rattle.rules.specs.Basics.{at}
 use Rattle.rules.specs.Needs.{Need}
 use Rattle.rules.specs.Program.{slots}
@@ -83,12 +84,12 @@ length-stored c (suc i) rows = length-set (stored c i rows) i (recordOf c i) ∙
 start-at : (rows : List JobRecord) (i : ℕ) → at (startsOf rows) i ≡ nthRecord rows i .start
 start-at rows i = List·getD-map (λ r. r .start) rows i (record { start = 0; board = 0 })
 
-loaded-size : (rows : List JobRecord) (m : ℕ) → length (loaded rows m .starts) ≡ 400
+loaded-size : (rows : List JobRecord) (m : ℕ) → length (loaded rows m .starts) ≡ maxJobs
 unfolding loaded blank
-loaded-size rows zero = length-replicate {A = ℕ} 400 0
+loaded-size rows zero = length-replicate {A = ℕ} maxJobs 0
 loaded-size rows (suc m) = length-set (loaded rows m .starts) m (nthRecord rows m .start) ∙ loaded-size rows m
 
-loaded-at : (rows : List JobRecord) (m i : ℕ) → i < m → m ≤ 400 → at (loaded rows m .starts) i ≡ at (startsOf rows) i
+loaded-at : (rows : List JobRecord) (m i : ℕ) → i < m → m ≤ maxJobs → at (loaded rows m .starts) i ≡ at (startsOf rows) i
 unfolding loaded
 loaded-at rows zero i l k = absurd (omega arith)
 loaded-at rows (suc m) i l k = go (ℕ-discrete i m) (λ j. loaded-at rows m i j (omega arith))
@@ -112,7 +113,7 @@ module _ (needs : List Need) (rows : List JobRecord) (words places : List ℕ) (
   pub rows-placeable : Placeable (length rows) needs (startsOf rows) words (pathOf (loaded rows (length rows) .starts) places (length rows)) count
   rows-placeable = rw (starts-length rows) at (seated-placeable needs (startsOf rows) words places count h (loaded rows (length rows) .starts) same-starts)
 
-pub rows-few : (rows : List JobRecord) (words places : List ℕ) (count : ℕ) → RowsSeated rows words places count → length rows ≤ 400
+pub rows-few : (rows : List JobRecord) (words places : List ℕ) (count : ℕ) → RowsSeated rows words places count → length rows ≤ maxJobs
 rows-few rows words places count h = rw (starts-length rows) at (h .seated .few)
 
 pub rows-plan : (rows : List JobRecord) (words places : List ℕ) (count : ℕ) → RowsSeated rows words places count
@@ -145,7 +146,7 @@ with-at b j (r ∷ rs) zero h = rw add-zero
 with-at b j (r ∷ rs) (suc i) h = with-at b (suc j) rs i (omega arith) ∙ ap (λ (n : ℕ). record { start = nthRecord rs i .start; board = b n }) (omega arith)
 
 -- the records are written back with their starts as they were
-stored-all : (c : Columns) (b : ℕ → ℕ) (rows : List JobRecord) → length rows ≤ 400 → c .starts ≡ loaded rows (length rows) .starts
+stored-all : (c : Columns) (b : ℕ → ℕ) (rows : List JobRecord) → length rows ≤ maxJobs → c .starts ≡ loaded rows (length rows) .starts
     → ((i : ℕ) → i < length rows → at (c .boards) i ≡ b i) → stored c (length rows) rows ≡ withBoards b 0 rows
 stored-all c b rows few e f = ext-getD (record { start = 0; board = 0 }) (stored c (length rows) rows) (withBoards b 0 rows)
     (length-stored c (length rows) rows ∙ sym (length-with b 0 rows)) (λ i l. go i (omega (arith, length-stored c (length rows) rows)))

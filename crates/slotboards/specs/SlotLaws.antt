@@ -8,6 +8,7 @@ use Prim.Native.Nat.{ℕ, suc, _+_, _≤_, _<_}
 use native.Mathlib.Decide.{ℕ-discrete, decLt}
 use native.Mathlib.Omega.{arith}
 use lib.ListN.{length}
+use Rattle.rules.specs.Sizes.{maxJobs}
 use Rattle.rules.specs.Basics.{choose, at, Distinct}
 use Rattle.rules.specs.Needs.{Need, Gives}
 use Rattle.laws.specs.BoardWords.{Inherits, TakesFirst, Taken, Left, LowestLeft, dec-inherits, lowest-same}
@@ -29,7 +30,7 @@ use Rattle.slotboards.specs.Moves.{State, kept-else, state-same, state-t
 
 -- the jobs of the slots before s have their boards
 pub record Given (n : ℕ) (needs : List Need) (t : List ℕ) (s : ℕ) (a : List ℕ) : Type 0 where
-  pub size : length a ≡ 400
+  pub size : length a ≡ maxJobs
   pub small : Below64 a
   pub behind : (i : ℕ) → n ≤ i → at a i ≡ 0
   pub handed : (g i : ℕ) → Gives needs g i → at t i < s → at t g + 1 ≡ at t i → at a i ≡ at a g

@@ -5,6 +5,7 @@ use mathlib.Core.List.{List, [], _∷_}
 use Prim.Native.Nat.{ℕ, zero, suc, _+_, _-_, _≤_, _<_, max}
 use native.Mathlib.Numerals.{add-one}
 use native.Mathlib.Omega.{arith}
+use Rattle.rules.specs.Sizes.{maxJobs, maxWidth}
 use Rattle.rules.specs.Basics.{choose, at, most}
 use Rattle.laws.specs.Tests.{by-choice}
 use Rattle.jobset.specs.declared.Set.{Set}
@@ -48,7 +49,7 @@ inherit-some A s last p z others e = rw e (refl, refl)
 
 -- where the lowest place of a giver stands
 pub giver-in : (words : List ℕ) (s : ℕ) (last : Set) (p : ℕ) → LastIn words s last → isEmpty (nearAt (tablesIn words) s last p) ≡ false
-    → (1 ≤ s) × (lowest (nearAt (tablesIn words) s last p) < 8) × (giverAt (tablesIn words) s last p < 400)
+    → (1 ≤ s) × (lowest (nearAt (tablesIn words) s last p) < maxWidth) × (giverAt (tablesIn words) s last p < maxJobs)
 unfolding giverAt
 giver-in words s last p h e = h (lowest near) (in-last (lowest near) (lowest-of near (λ q m. let w = h q (in-last q m) in omega (arith, w .1)) e .1))
   where

@@ -8,7 +8,7 @@ use fields::wide;
 use jobset::Set;
 use layout::PREV;
 use layout::TABLES;
-use layout::WHO;
+use layout::job_at;
 use layout::set_at;
 use sizes::MAX_JOBS;
 use sizes::MAX_SLOTS;
@@ -16,6 +16,7 @@ use sizes::PLACES;
 ghost use mathlib.Core.Path.{_≡_};
 ghost use Prim.Native.Nat.{ℕ, _<_, _≤_};
 ghost use lib.ListN.{replicate};
+ghost use Rattle.rules.specs.Sizes.{maxLimit, maxWidth, maxJobs};
 ghost use Rattle.rules.specs.Basics.{at, most};
 ghost use Rattle.layout.specs.Layout.{tablesIn};
 ghost use Rattle.places.specs.Slot.{nearAt};
@@ -49,17 +50,9 @@ struct Columns {
     pub boards: [u8; MAX_JOBS],
 }
 
-// The job at a place of a slot.
-fn job_at(tables: &[u16; TABLES], slot: usize, p: usize) -> usize
-    requires { ⌜ (slot < 64) × (p < 8) ⌝ }
-    ensures { λ r. ⌜ r ≡ tablesIn (now (tables .entry)) .who slot p ⌝ }
-{
-    fields::index(tables[WHO + PLACES * slot + p])
-}
-
 // The givers of the job at place p in the slot before, whose jobs are `last`.
 fn near_at(tables: &[u16; TABLES], slot: usize, last: Set, p: usize) -> Set
-    requires { ⌜ (slot < 64) × (p < 8) ⌝ }
+    requires { ⌜ (slot < maxLimit) × (p < maxWidth) ⌝ }
     ensures { λ r. ⌜ r ≡ nearAt (tablesIn (now (tables .entry))) slot last p ⌝ }
 {
     let givers = set_at(tables, PREV + PLACES * slot + p);
@@ -75,7 +68,7 @@ fn inherit(
     p: usize,
     boards: &mut [u8; MAX_JOBS],
 ) -> Inherited
-    requires { ⌜ (slot < 64) × (p < 8) × (tablesIn (now tables) .who slot p < 400) × LastIn (now tables) slot last × Below64 (now boards) ⌝ }
+    requires { ⌜ (slot < maxLimit) × (p < maxWidth) × (tablesIn (now tables) .who slot p < maxJobs) × LastIn (now tables) slot last × Below64 (now boards) ⌝ }
     ensures { λ r. ⌜ (filling (r .free) (now (boards .exit)) ≡ inherit (tablesIn (now (tables .entry))) slot last p (filling (z .free) (now (boards .entry))))
         × (r .others ≡ leave (tablesIn (now (tables .entry))) slot last p (z .others)) ⌝ }
 {
@@ -104,7 +97,7 @@ fn inherit_all(
     jobs: Set,
     boards: &mut [u8; MAX_JOBS],
 ) -> Inherited
-    requires { ⌜ (slot < 64) × HereIn (now tables) slot jobs × LastIn (now tables) slot last × Below64 (now boards) ⌝ }
+    requires { ⌜ (slot < maxLimit) × HereIn (now tables) slot jobs × LastIn (now tables) slot last × Below64 (now boards) ⌝ }
     ensures { λ r. ⌜ (filling (r .free) (now (boards .exit)) ≡ inherited (tablesIn (now (tables .entry))) slot last jobs (now (boards .entry)))
         × (r .others ≡ othersOf (tablesIn (now (tables .entry))) slot last jobs) ⌝ }
 {
@@ -130,8 +123,9 @@ fn take_row(
     count: usize,
     boards: &mut [u8; MAX_JOBS],
 )
-    requires { ⌜ (slot < 64) × (count ≤ 8) × Fits (now tables) slot (rowFrom (now row) count) (filling first (now boards)) ⌝ }
-    ensures { λ _. ⌜ now (boards .exit) ≡ takeRow (tablesIn (now (tables .entry))) slot (rowFrom (now (row .entry)) count) (filling first (now (boards .entry))) ⌝ }
+    requires { ⌜ (slot < maxLimit) × (count ≤ maxWidth) × Fits (now tables) slot (rowFrom (now row) count) (filling first (now boards)) ⌝ }
+    ensures { λ _. ⌜ now (boards .exit)
+        ≡ takeRow (tablesIn (now (tables .entry))) slot (rowFrom (now (row .entry)) count) (filling first (now (boards .entry))) ⌝ }
 {
     let mut free = first;
     let mut left = count;
@@ -145,7 +139,7 @@ fn take_row(
 
 // The others, in rising number, take the lowest boards left.
 fn take_lowest(z: Inherited, tables: &[u16; TABLES], slot: usize, boards: &mut [u8; MAX_JOBS])
-    requires { ⌜ (slot < 64) × Listable (tablesIn (now tables) .who slot) (z .others)
+    requires { ⌜ (slot < maxLimit) × Listable (tablesIn (now tables) .who slot) (z .others)
         × Fits (now tables) slot (othersRow (tablesIn (now tables)) slot (z .others)) (filling (z .free) (now boards)) ⌝ }
     ensures { λ _. ⌜ now (boards .exit) ≡ placeOthers (tablesIn (now (tables .entry))) slot (z .others) (filling (z .free) (now (boards .entry))) ⌝ }
 {
@@ -154,21 +148,12 @@ fn take_lowest(z: Inherited, tables: &[u16; TABLES], slot: usize, boards: &mut [
     take_row(z.free, tables, slot, &row, count, boards);
 }
 
-// A byte, as the number of a set.
-fn octet(b: u8) -> u64
-    ensures { λ r. ⌜ r ≡ b ⌝ }
-{
-    b as u64
-}
-
 // The places of the jobs of a slot.
 fn jobs_of(path: &[u8; MAX_SLOTS], slot: usize) -> Set
-    requires { ⌜ slot < 64 ⌝ }
+    requires { ⌜ slot < maxLimit ⌝ }
     ensures { λ r. ⌜ r ≡ setAt (now (path .entry)) slot ⌝ }
 {
-    Set {
-        bits: octet(path[slot]),
-    }
+    Set::of_byte(path[slot])
 }
 
 // All slots, one after the other.
@@ -194,7 +179,7 @@ fn place_slots(
 
 // The largest board.
 fn largest(boards: &[u8; MAX_JOBS], jobs: usize) -> usize
-    requires { ⌜ jobs ≤ 400 ⌝ }
+    requires { ⌜ jobs ≤ maxJobs ⌝ }
     ensures { λ r. ⌜ r ≡ most (at (now (boards .entry))) jobs ⌝ }
 {
     let mut most = 0;
@@ -236,7 +221,7 @@ fn blank_columns() -> Columns
 
 // The start of record i is copied out.
 fn with_start(c: Columns, i: usize, r: JobRecord) -> Columns
-    requires { ⌜ i < 400 ⌝ }
+    requires { ⌜ i < maxJobs ⌝ }
     ensures { λ t. ⌜ t ≡ withStart c i r ⌝ }
 {
     let mut t = c;
@@ -251,7 +236,7 @@ fn path_of(
     jobs: usize,
     path: &mut [u8; MAX_SLOTS],
 )
-    requires { ⌜ (jobs ≤ 400) × PathIn (now starts) (now places) jobs × (now path ≡ replicate 64 0) ⌝ }
+    requires { ⌜ (jobs ≤ maxJobs) × PathIn (now starts) (now places) jobs × (now path ≡ replicate maxLimit 0) ⌝ }
     ensures { λ _. ⌜ now (path .exit) ≡ pathOf (now (starts .entry)) (now (places .entry)) jobs ⌝ }
 {
     let mut job = 0;
@@ -290,7 +275,7 @@ fn place_columns(
 
 // The record of job i.
 fn record_of(c: Columns, i: usize) -> JobRecord
-    requires { ⌜ i < 400 ⌝ }
+    requires { ⌜ i < maxJobs ⌝ }
     ensures { λ r. ⌜ r ≡ recordOf c i ⌝ }
 {
     JobRecord {

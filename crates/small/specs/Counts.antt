@@ -76,7 +76,8 @@ line n m s = record { jobs = n; number = m; fewest-slots = some s }
 
 -- the first four lines: `1 0 1`, `2 0 1`, `2 2 2`, `2 4 2`
 pub first-lines : gateLines 1 ++ gateLines 2 ≡ line 1 0 1 ∷ line 2 0 1 ∷ line 2 2 2 ∷ line 2 4 2 ∷ []
-unfolding gateLines fewest leastOf smaller startLists prefixed keptb all₂ slots largest gates gateb needsOf pairs needBit bit circleFree rounds giversMarked tabulate range filter all imp choose
+unfolding gateLines fewest leastOf smaller startLists prefixed keptb all₂ slots largest gates gateb needsOf pairs needBit bit circleFree rounds giversMarked
+    tabulate range filter all imp choose
 first-lines = refl
 
 -- four jobs in a row and every need that follows: `4 29456 4`

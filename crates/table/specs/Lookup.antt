@@ -16,7 +16,8 @@ use Rattle.table.specs.Entries.{jobIn}
 -- ---- the first row with a slot and a board
 
 module _ (ts bs : List ℕ) (s b i : ℕ) (same : length bs ≡ length ts) where
-  next-row : (k : ℕ) → i < length ts → jobIn k (drop i ts) (drop i bs) s b ≡ choose (eqb (at ts i) s && eqb (at bs i) b) k (jobIn (suc k) (drop (i + 1) ts) (drop (i + 1) bs) s b)
+  next-row : (k : ℕ) → i < length ts → jobIn k (drop i ts) (drop i bs) s b
+      ≡ choose (eqb (at ts i) s && eqb (at bs i) b) k (jobIn (suc k) (drop (i + 1) ts) (drop (i + 1) bs) s b)
   unfolding jobIn
   next-row k h = rw (add-one, drop-cons ts i 0 h, let l : i < length bs = omega arith in drop-cons bs i 0 l) refl
 
@@ -24,7 +25,8 @@ module _ (ts bs : List ℕ) (s b i : ℕ) (same : length bs ≡ length ts) where
   unfolding choose
   row-found h e = next-row (i + 1) h ∙ rw e refl
 
-  pub row-passed : i < length ts → (eqb (at ts i) s && eqb (at bs i) b) ≡ false → jobIn (i + 1) (drop i ts) (drop i bs) s b ≡ jobIn (i + 1 + 1) (drop (i + 1) ts) (drop (i + 1) bs) s b
+  pub row-passed : i < length ts → (eqb (at ts i) s && eqb (at bs i) b) ≡ false → jobIn (i + 1) (drop i ts) (drop i bs) s b
+      ≡ jobIn (i + 1 + 1) (drop (i + 1) ts) (drop (i + 1) bs) s b
   unfolding choose
   row-passed h e = next-row (i + 1) h ∙ rw (e, let two : i + 1 + 1 ≡ suc (i + 1) = omega arith in two) refl
 

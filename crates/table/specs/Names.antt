@@ -19,7 +19,8 @@ use Rattle.rows.specs.RowWays.{row-is}
 use Rattle.table.specs.Entries.{placeOf, partOf}
 
 -- where a row and its name end
-row-ends : (bs : List ℕ) (i : ℕ) → T (isRow bs (rowStart bs i)) → (rowStart bs i + 7 ≤ rowStart bs (suc i)) × (rowStart bs (suc i) ≤ rowStart bs i + 19) × (rowStart bs (suc i) ≤ length bs)
+row-ends : (bs : List ℕ) (i : ℕ) → T (isRow bs (rowStart bs i)) → (rowStart bs i + 7 ≤ rowStart bs (suc i)) × (rowStart bs (suc i) ≤ rowStart bs i + 19)
+    × (rowStart bs (suc i) ≤ length bs)
 unfolding rowStart
 row-ends bs i t =
     let r = row-is bs (rowStart bs i) .0 t in
@@ -46,7 +47,8 @@ module _ (bs : List ℕ) (s b : ℕ) where
   job-few (suc i) e = omega (arith, found-rows i e .0)
 
   -- the name lies in the table, and near its front
-  pub name-lies : (i : ℕ) → lookup bs s b ≡ got (suc i) → (rowStart bs i + 7 ≤ rowStart bs (suc i)) × (rowStart bs (suc i) ≤ length bs) × (rowStart bs (suc i) ≤ tableSize)
+  pub name-lies : (i : ℕ) → lookup bs s b ≡ got (suc i) → (rowStart bs i + 7 ≤ rowStart bs (suc i)) × (rowStart bs (suc i) ≤ length bs)
+      × (rowStart bs (suc i) ≤ tableSize)
   name-lies i e = let w = found-rows i e in let l = row-ends bs i (w .1 i (omega arith)) in omega (arith, l, w .0, rows-near bs (suc i) (w .1))
 
   pub name-is : nameAt bs s b ≡ partOf bs (placeOf bs (lookup bs s b))

@@ -1,6 +1,6 @@
 -- The number of a state of a slot in base three, by a table of 256 entries: the entry for a byte is the sum of 3 ^ k over its set bits k
 -- (request 11). With it the number of a state is the entry for done plus the entry for ran. Assumes nothing.
-use mathlib.Core.Path.{_≡_, refl, sym, ap, _∙_}
+use mathlib.Core.Path.{_≡_, refl, sym, _∙_}
 use mathlib.Core.Bool.{Bool, true, false, false≢true}
 use Prim.Native.Nat.{ℕ, zero, suc, _+_, _-_, _*_, _^_, _<_}
 use native.Mathlib.Nat.{pow-suc}
@@ -69,7 +69,8 @@ number-lt done ran = both-lt 8 done ran
 -- ---- one-to-one
 
 -- two states with one number agree at each place
-same-places : (w : ℕ) (d r e q : Set) → Subset r d → Subset q e → both w d r ≡ both w e q → (k : ℕ) → k < w → (member d k ≡ member e k) × (member r k ≡ member q k)
+same-places : (w : ℕ) (d r e q : Set) → Subset r d → Subset q e → both w d r ≡ both w e q → (k : ℕ) → k < w → (member d k ≡ member e k)
+    × (member r k ≡ member q k)
 unfolding threesTo Subset
 same-places zero d r e q i j h k l = absurd (omega arith)
 same-places (suc w) d r e q i j h k l =

@@ -32,7 +32,8 @@ module _ (bs o t b : List ℕ) (slots boards : ℕ) where
   pub one-row-more : (i : ℕ) → upTo (i + 1) ≡ upTo i ++ rowBytes (rowWith (at t i) (at b i) (value bs (at o i)))
   unfolding encode tableWith
   one-row-more i =
-      rw (add-one i) (ap (λ (l : List ℕ). head ++ l) (ap rowsBytes (tabulate-snoc row i 0) ∙ rows-snoc (tabulate row i 0) (row (0 + i)) ∙ ap (λ (n : ℕ). rowsBytes (tabulate row i 0) ++ rowBytes (row n)) zero-i)
+      rw (add-one i) (ap (λ (l : List ℕ). head ++ l) (ap rowsBytes (tabulate-snoc row i 0) ∙ rows-snoc (tabulate row i 0) (row (0 + i))
+      ∙ ap (λ (n : ℕ). rowsBytes (tabulate row i 0) ++ rowBytes (row n)) zero-i)
       ∙ sym (append-assoc head (rowsBytes (tabulate row i 0)) (rowBytes (row i))))
     where
       head : List ℕ
@@ -71,7 +72,8 @@ pub written-length : (w l : List ℕ) (a : ℕ) (table : List ℕ) → WrittenTo
 written-length w l a table so = omega (arith, so .size, so .room, ap length (so .bytes), length-append w (drop a l), length-drop a l)
 
 -- one row more
-pub row-written : (w r l table q : List ℕ) (a k : ℕ) (w′ : List ℕ) → WrittenTo w l a table → w′ ≡ w ++ r → a + length r ≤ length l → k ≡ length table - a → q ≡ r ++ drop (length r) (midOf a k table)
+pub row-written : (w r l table q : List ℕ) (a k : ℕ) (w′ : List ℕ) → WrittenTo w l a table → w′ ≡ w ++ r → a + length r ≤ length l → k ≡ length table - a → q
+    ≡ r ++ drop (length r) (midOf a k table)
     → WrittenTo w′ l (a + length r) (putMid a k table q)
 row-written w r l table q a k w′ so e fits ek eq = record {
   size = omega (arith, so .size, ap length e, length-append w r);
@@ -79,7 +81,8 @@ row-written w r l table q a k w′ so e fits ek eq = record {
   bytes = put-behind w r l table q a k (sym (so .size)) fits (so .bytes) ek eq ∙ ap (λ (x : List ℕ). x ++ drop (a + length r) l) (sym e);
 }
 
-pub head-length : (slots boards : ℕ) (buffer table : List ℕ) → table ≡ headBytes slots boards ++ drop 6 buffer → 6 ≤ length buffer → length table ≡ length buffer
+pub head-length : (slots boards : ℕ) (buffer table : List ℕ) → table ≡ headBytes slots boards ++ drop 6 buffer → 6 ≤ length buffer → length table
+    ≡ length buffer
 unfolding headBytes
 head-length slots boards buffer table e h = omega (arith, ap length e, length-drop 6 buffer)
 
@@ -94,17 +97,21 @@ module _ (bs o t b : List ℕ) (slots boards : ℕ) where
   }
 
   -- a turn: the row of job i, with its value v, is put behind the others
-  pub row-turn : (i : ℕ) (v l table q : List ℕ) (a k size : ℕ) → WrittenTo (upTo bs o t b slots boards i) l a table → v ≡ value bs (at o i) → a + 19 ≤ length l → length v ≤ 14 → 2 ≤ length v
-      → size ≡ length (rowBytes (rowWith (at t i) (at b i) v)) → k ≡ length table - a → q ≡ rowBytes (rowWith (at t i) (at b i) v) ++ drop size (midOf a k table)
+  pub row-turn : (i : ℕ) (v l table q : List ℕ) (a k size : ℕ) → WrittenTo (upTo bs o t b slots boards i) l a table → v ≡ value bs (at o i) → a + 19 ≤ length l
+      → length v ≤ 14 → 2 ≤ length v
+      → size ≡ length (rowBytes (rowWith (at t i) (at b i) v)) → k ≡ length table - a → q
+      ≡ rowBytes (rowWith (at t i) (at b i) v) ++ drop size (midOf a k table)
       → WrittenTo (upTo bs o t b slots boards (i + 1)) l (a + size) (putMid a k table q)
   row-turn i v l table q a k size so ev fits short long es ek eq =
       let r = rowBytes (rowWith (at t i) (at b i) v) in
       let room : a + length r ≤ length l = omega (arith, row-length (at t i) (at b i) v long) in
-      let more = row-written (upTo bs o t b slots boards i) r l table q a k (upTo bs o t b slots boards (i + 1)) so (one-row-more bs o t b slots boards i ∙ ap (λ (x : List ℕ). upTo bs o t b slots boards i ++ rowBytes (rowWith (at t i) (at b i) x)) (sym ev)) room ek (rw (← es) eq) in
+      let more = row-written (upTo bs o t b slots boards i) r l table q a k (upTo bs o t b slots boards (i + 1)) so (one-row-more bs o t b slots boards i
+      ∙ ap (λ (x : List ℕ). upTo bs o t b slots boards i ++ rowBytes (rowWith (at t i) (at b i) x)) (sym ev)) room ek (rw (← es) eq) in
       rw es more
 
   -- at the end the table stands in front of what the buffer had behind it
-  pub all-written : (n : ℕ) (buffer start table : List ℕ) (a : ℕ) → start ≡ headBytes slots boards ++ drop 6 buffer → 6 ≤ a → WrittenTo (upTo bs o t b slots boards n) start a table
+  pub all-written : (n : ℕ) (buffer start table : List ℕ) (a : ℕ) → start ≡ headBytes slots boards ++ drop 6 buffer → 6 ≤ a
+      → WrittenTo (upTo bs o t b slots boards n) start a table
       → table ≡ upTo bs o t b slots boards n ++ drop a buffer
   unfolding headBytes
   all-written n buffer start table a e h so = so .bytes ∙ ap (λ (x : List ℕ). upTo bs o t b slots boards n ++ x) behind
@@ -115,4 +122,5 @@ module _ (bs o t b : List ℕ) (slots boards : ℕ) where
       behind : drop a start ≡ drop a buffer
       behind =
           let p : a ≡ 6 + (a - 6) = omega arith in
-          ap (drop a) e ∙ ap (λ (m : ℕ). drop m (headBytes slots boards ++ drop 6 buffer)) p ∙ past-head ∙ drop-drop (a - 6) 6 buffer ∙ ap (λ (m : ℕ). drop m buffer) (sym p)
+          ap (drop a) e ∙ ap (λ (m : ℕ). drop m (headBytes slots boards ++ drop 6 buffer)) p ∙ past-head ∙ drop-drop (a - 6) 6 buffer
+          ∙ ap (λ (m : ℕ). drop m buffer) (sym p)

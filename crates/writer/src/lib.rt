@@ -56,8 +56,11 @@ pub fn write_table(
     table: &mut [u8],
 ) -> usize
     requires { ⌜ (jobs ≤ maxJobs) × (tableSize ≤ length (now table)) × JobFields (now file) (now offsets) jobs ⌝ }
-    ensures size { λ r. ⌜ r ≡ length (encode (tableWith (now (file .entry)) (now (offsets .entry)) (now (starts .entry)) (now (boards .entry)) jobs slots count)) ⌝ }
-    ensures bytes { λ r. ⌜ now (table .exit) ≡ encode (tableWith (now (file .entry)) (now (offsets .entry)) (now (starts .entry)) (now (boards .entry)) jobs slots count) ++ drop r (now (table .entry)) ⌝ }
+    ensures size { λ r. ⌜ r ≡ length
+        (encode (tableWith (now (file .entry)) (now (offsets .entry)) (now (starts .entry)) (now (boards .entry)) jobs slots count)) ⌝ }
+    ensures bytes { λ r. ⌜ now (table .exit)
+        ≡ encode (tableWith (now (file .entry)) (now (offsets .entry)) (now (starts .entry)) (now (boards .entry)) jobs slots count) ++ drop r
+        (now (table .entry)) ⌝ }
 {
     put_head(slots, count, table);
     let mut at = 6;

@@ -7,7 +7,8 @@ mod TrySets
 mod Explore
 use Rattle.backtrack.proofs.+explore+try_number+try_row+try_set+try_sets.Proof.Members.{μ-explore, μ-try-number, μ-try-row, μ-try-set, μ-try-sets}
 use Rattle.backtrack.proofs.+explore+try_number+try_row+try_set+try_sets.Proof.Members.{explore-at, try-number-at, try-row-at, try-set-at, try-sets-at}
-use Rattle.backtrack.proofs.+explore+try_number+try_row+try_set+try_sets.Proof.Members.{explore-claims, try-number-claims, try-row-claims, try-set-claims, try-sets-claims}
+use Rattle.backtrack.proofs.+explore+try_number+try_row+try_set+try_sets.Proof.Members.{explore-claims, try-number-claims, try-row-claims}
+use Rattle.backtrack.proofs.+explore+try_number+try_row+try_set+try_sets.Proof.Members.{try-set-claims, try-sets-claims}
 use Rattle.backtrack.proofs.+explore+try_number+try_row+try_set+try_sets.{statement}
 use Rattle.backtrack.proofs.+explore+try_number+try_row+try_set+try_sets.Tie.{close}
 use Rattle.backtrack.proofs.explore.Reads as explore

@@ -10,14 +10,16 @@ use Rattle.backtrack.proofs.candidates_at.Statement.{statement}
 use Rattle.backtrack.proofs.candidates_at.Tie as tie
 
 abbrev Inv-loop : tie.InvT-loop
-Inv-loop tables slot done ran rest₀ c₀ rest c = (rest .bits < 2 ^ 64) × (sortPlaces (tablesIn tables .prev slot) done ran c (members rest) ≡ sortPlaces (tablesIn tables .prev slot) done ran c₀ (members rest₀))
+Inv-loop tables slot done ran rest₀ c₀ rest c = (rest .bits < 2 ^ 64)
+    × (sortPlaces (tablesIn tables .prev slot) done ran c (members rest) ≡ sortPlaces (tablesIn tables .prev slot) done ran c₀ (members rest₀))
 
 abbrev μ-loop : tie.MeasureT-loop
 μ-loop tables slot done ran rest₀ c₀ rest c = rest .bits
 
 -- what a turn knows
 turned : (c : tie.After-lowest Inv-loop μ-loop) → Turn (c .before .before .before .loop .rest) (c .lowest .result)
-turned c = turn (c .before .before .before .loop .rest) (c .before .before .is-empty .result) (c .lowest .result) (c .before .before .before .loop .inv .0) (c .before .before .is-empty .ensures) (c .before .if1 .taken) (c .lowest .ensures)
+turned c = turn (c .before .before .before .loop .rest) (c .before .before .is-empty .result) (c .lowest .result) (c .before .before .before .loop .inv .0)
+    (c .before .before .is-empty .ensures) (c .before .if1 .taken) (c .lowest .ensures)
 
 -- the places of the slot
 held-is : (c : tie.After-set-at Inv-loop μ-loop) → c .set-at .result ≡ tablesIn (c .before .args .tables .now) .held (c .before .args .slot)
@@ -62,15 +64,24 @@ unfolding sortPlaces
 loop-again c =
     let l = c .before .before .before .before .before .before .loop in
     let a = c .before .before .before .before .before .before .before .before .before .args in
-    let t = turned (c .before .before .before) in
-    (search needs, rw (c .rest .ensures ∙ t .rest-is, c .before .sort-place .ensures, c .before .before .givers-at .ensures) (sym (ap (sortPlaces (tablesIn (a .tables .now) .prev (a .slot)) (a .done) (a .ran) (l .c)) (t .first)) ∙ l .inv .1))
+    let t = turned (c .before .before .before) in (
+      search needs,
+      rw (
+        c .rest .ensures ∙ t .rest-is,
+        c .before .sort-place .ensures,
+        c .before .before .givers-at .ensures,
+      ) (sym (ap (sortPlaces (tablesIn (a .tables .now) .prev (a .slot)) (a .done) (a .ran) (l .c)) (t .first))
+          ∙ l .inv .1),
+    )
 
 returns : tie.Need-returns Inv-loop μ-loop
 unfolding sortPlaces foundAt
 returns c =
     let l = c .before .before .loop in
     let a = c .before .before .before .before .before .args in
-    sym (ap (sortPlaces (tablesIn (a .tables .now) .prev (a .slot)) (a .done) (a .ran) (l .c)) (end (l .rest) (c .before .is-empty .result) (c .before .is-empty .ensures) (c .if1 .left) .no-members)) ∙ l .inv .1 ∙ rw (c .before .before .before .minus .ensures, held-is (c .before .before .before .before)) refl
+    sym (ap (sortPlaces (tablesIn (a .tables .now) .prev (a .slot)) (a .done) (a .ran) (l .c))
+    (end (l .rest) (c .before .is-empty .result) (c .before .is-empty .ensures) (c .if1 .left) .no-members)) ∙ l .inv .1
+    ∙ rw (c .before .before .before .minus .ensures, held-is (c .before .before .before .before)) refl
 
 pub candidates-at-spec : {M : Type 1} → statement M
 candidates-at-spec =

@@ -20,7 +20,11 @@ index-requires c κs = search needs
 
 returns : tie.Need-returns
 unfolding choiceOf choose
-returns c = rw (sym (c .before .before .before .before .exceeds .ensures) ∙ c .before .before .before .if1 .taken, c .before .before .union .ensures, c .index .ensures)
+returns c = rw (
+  sym (c .before .before .before .before .exceeds .ensures) ∙ c .before .before .before .if1 .taken,
+  c .before .before .union .ensures,
+  c .index .ensures,
+)
 
 count-requires : tie.Need-count-requires
 count-requires c κs = search needs

@@ -16,7 +16,8 @@ index-requires : tie.Need-index-requires
 index-requires c κs = search needs
 
 returns : tie.Need-returns
-returns c = let a = c .before .before .before .args in let p = c .before .before .before .pre in sym (le-ltb (capIn (a .tables .now)) (fitOf (plain (a .c))) (omega (arith, c .before .index .ensures, c .if1 .taken)))
+returns c = let a = c .before .before .before .args in let p = c .before .before .before .pre in
+    sym (le-ltb (capIn (a .tables .now)) (fitOf (plain (a .c))) (omega (arith, c .before .index .ensures, c .if1 .taken)))
 
 count-requires : tie.Need-count-requires
 count-requires c κs = search needs

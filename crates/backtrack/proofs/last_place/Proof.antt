@@ -26,11 +26,13 @@ others c = c .rest .ensures ∙ ap (without (c .before .before .args .places)) (
 
 -- all are below eight
 small : (c : tie.After-rest Inv-loop μ-loop) (p : ℕ) → And (c .before .lowest .result) (c .rest .result) p → p < 8
-small c p o = c .before .before .pre .1 p (in-and (c .before .before .args .places) (c .before .lowest .result) (first-in (c .before)) p .1 (rw (others c) at o))
+small c p o = c .before .before .pre .1 p
+    (in-and (c .before .before .args .places) (c .before .lowest .result) (first-in (c .before)) p .1 (rw (others c) at o))
 
 -- what a turn knows
 turned : (c : tie.After-lowest2 Inv-loop μ-loop) → Turn (c .before .before .before .loop .rest) (c .lowest2 .result)
-turned c = turn (c .before .before .before .loop .rest) (c .before .before .is-empty .result) (c .lowest2 .result) (c .before .before .before .loop .inv .0) (c .before .before .is-empty .ensures) (c .before .if1 .taken) (c .lowest2 .ensures)
+turned c = turn (c .before .before .before .loop .rest) (c .before .before .is-empty .result) (c .lowest2 .result) (c .before .before .before .loop .inv .0)
+    (c .before .before .is-empty .ensures) (c .before .if1 .taken) (c .lowest2 .ensures)
 
 lowest-requires : tie.Need-lowest-requires Inv-loop μ-loop
 lowest-requires c κs = tt
@@ -42,7 +44,11 @@ rest-requires : tie.Need-rest-requires Inv-loop μ-loop
 rest-requires c κs = c .before .pre .2
 
 loop-holds : tie.Need-loop-holds Inv-loop μ-loop
-loop-holds c = (search needs, leading-start (tablesIn (c .before .before .args .tables .now) .who (c .before .before .args .slot)) (c .before .lowest .result) (c .rest .result))
+loop-holds c = (
+  search needs,
+  leading-start (tablesIn (c .before .before .args .tables .now) .who (c .before .before .args .slot)) (c .before .lowest .result)
+      (c .rest .result),
+)
 
 is-empty-requires : tie.Need-is-empty-requires Inv-loop μ-loop
 is-empty-requires c κs = tt
@@ -55,8 +61,11 @@ cast-later c = search needs
 
 later-requires : tie.Need-later-requires Inv-loop μ-loop
 later-requires c κs =
-    let l = c .before .before .before .loop .inv .1 in
-    (c .before .before .before .before .before .before .pre .0, small (c .before .before .before .before) (c .before .before .before .loop .last) (l .is-in), small (c .before .before .before .before) (c .lowest2 .result) (l .inside (c .lowest2 .result) (turned c .is-member)))
+    let l = c .before .before .before .loop .inv .1 in (
+      c .before .before .before .before .before .before .pre .0,
+      small (c .before .before .before .before) (c .before .before .before .loop .last) (l .is-in),
+      small (c .before .before .before .before) (c .lowest2 .result) (l .inside (c .lowest2 .result) (turned c .is-member)),
+    )
 
 rest-requires-2 : tie.Need-rest-requires-2 Inv-loop μ-loop
 rest-requires-2 c κs = turned (c .before) .not-empty
@@ -67,8 +76,14 @@ loop-less c = rw (c .rest2 .ensures ∙ turned (c .before .before) .rest-is) (tu
 loop-again : tie.Need-loop-again Inv-loop μ-loop
 loop-again c =
     let l = c .before .before .before .before .before .loop in
-    let t = turned (c .before .before) in
-    (search needs, rw (c .before .later .ensures, c .rest2 .ensures ∙ t .rest-is) (leading-next (c .before .before .lowest2 .result) (l .inv .1) (t .is-member)))
+    let t = turned (c .before .before) in (
+      search needs,
+      rw (
+        c .before .later .ensures,
+        c .rest2 .ensures
+            ∙ t .rest-is,
+      ) (leading-next (c .before .before .lowest2 .result) (l .inv .1) (t .is-member)),
+    )
 
 returns : tie.Need-returns Inv-loop μ-loop
 returns c =

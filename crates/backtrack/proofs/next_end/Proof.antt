@@ -12,7 +12,8 @@ use Rattle.backtrack.proofs.next_end.Tie as tie
 
 -- what they have in common is not empty
 moves : (c : tie.Else1) → Moves (c .before .before .before .before .args .number .bits)
-moves c = end-next (c .before .before .before .before .args .number .bits) (c .before .before .before .before .pre) (sym (ap isEmpty (c .before .before .intersection .ensures)) ∙ sym (c .before .is-empty .ensures) ∙ c .if1 .left)
+moves c = end-next (c .before .before .before .before .args .number .bits) (c .before .before .before .before .pre)
+    (sym (ap isEmpty (c .before .before .intersection .ensures)) ∙ sym (c .before .is-empty .ensures) ∙ c .if1 .left)
 
 upper-low : (c : tie.After-lowest2) → c .before .lowest .result ≡ lowest (upper (c .before .before .before .before .before .before .args .number .bits))
 upper-low c = c .before .lowest .ensures ∙ ap lowest (c .before .before .before .before .intersection .ensures)
@@ -21,12 +22,14 @@ above-low : (c : tie.After-lowest2) → c .lowest2 .result ≡ lowest (above (c 
 above-low c = c .lowest2 .ensures
 
 -- the power, as the code shifts it
-power : (c : tie.After-lowest2) → (1 * 2 ^ (c .before .lowest .result - c .lowest2 .result - 1)) % 2 ^ 64 ≡ takenOff (c .before .before .before .before .before .before .args .number .bits)
+power : (c : tie.After-lowest2) → (1 * 2 ^ (c .before .lowest .result - c .lowest2 .result - 1)) % 2 ^ 64
+    ≡ takenOff (c .before .before .before .before .before .before .args .number .bits)
 power c =
     let n = c .before .before .before .before .before .before .args .number .bits in
     rw (upper-low c, above-low c) (shifted-one 64 (lowest (upper n) - lowest (above n) - 1) (omega (arith, moves (c .before .before) .low)))
 
-upper-bits : (c : tie.After-lowest2) → c .before .before .before .before .intersection .result .bits ≡ upper (c .before .before .before .before .before .before .args .number .bits) .bits
+upper-bits : (c : tie.After-lowest2) → c .before .before .before .before .intersection .result .bits
+    ≡ upper (c .before .before .before .before .before .before .args .number .bits) .bits
 upper-bits c = ap (λ (s : Set). s .bits) (c .before .before .before .before .intersection .ensures)
 
 add-result : tie.Need-add-result
@@ -39,7 +42,8 @@ is-empty-requires : tie.Need-is-empty-requires
 is-empty-requires c κs = search needs
 
 returns : tie.Need-returns
-returns c = sym (end-last (c .before .before .before .before .args .number .bits) (c .before .before .before .before .pre) (sym (ap isEmpty (c .before .before .intersection .ensures)) ∙ sym (c .before .is-empty .ensures) ∙ c .if1 .taken))
+returns c = sym (end-last (c .before .before .before .before .args .number .bits) (c .before .before .before .before .pre)
+    (sym (ap isEmpty (c .before .before .intersection .ensures)) ∙ sym (c .before .is-empty .ensures) ∙ c .if1 .taken))
 
 lowest-requires : tie.Need-lowest-requires
 lowest-requires c κs = search needs
@@ -65,7 +69,12 @@ sub-result c = rw (power (c .before), upper-bits (c .before)) (moves (c .before 
 add-result-2 : tie.Need-add-result-2
 add-result-2 c =
     let n = c .before .before .before .before .before .before .before .args .number .bits in
-    rw (power (c .before), upper-bits (c .before)) (omega (arith, moves (c .before .before .before) .end-is, end-le (digitsOf n) n, c .before .before .before .before .before .before .before .pre))
+    rw (power (c .before), upper-bits (c .before)) (omega (
+      arith,
+      moves (c .before .before .before) .end-is,
+      end-le (digitsOf n) n,
+      c .before .before .before .before .before .before .before .pre,
+    ))
 
 returns-2 : tie.Need-returns-2
 returns-2 c = rw (power (c .before), upper-bits (c .before)) (sym (moves (c .before .before .before) .end-is))

@@ -27,7 +27,8 @@ abbrev μ-loop : tie.MeasureT-loop
 -- what a turn knows
 turned : (c : tie.After-lowest Inv-loop μ-loop) → Turn (c .before .before .before .loop .rest) (c .lowest .result)
 turned c =
-    turn (c .before .before .before .loop .rest) (c .before .before .is-empty .result) (c .lowest .result) (c .before .before .before .loop .inv .0) (c .before .before .is-empty .ensures) (c .before .if1 .taken) (c .lowest .ensures)
+    turn (c .before .before .before .loop .rest) (c .before .before .is-empty .result) (c .lowest .result) (c .before .before .before .loop .inv .0)
+    (c .before .before .is-empty .ensures) (c .before .if1 .taken) (c .lowest .ensures)
 
 -- the place at the digit
 place : (c : tie.After-lowest Inv-loop μ-loop) → (c .lowest .result < 8) × (at (c .before .before .before .before .args .row .now) (c .lowest .result) < 64)
@@ -38,11 +39,15 @@ place c = c .before .before .before .before .pre .1 (c .lowest .result) (c .befo
 near : (c : tie.After-intersection Inv-loop μ-loop) → let a = c .before .before .before .before .before .before .before .before .args in
     c .intersection .result ≡ nearAt (tablesIn (a .tables .now)) (a .slot) (a .ran) (at (a .row .now) (c .before .before .before .before .lowest .result))
 unfolding nearAt
-near c = c .intersection .ensures ∙ ap (λ (s : Set). intersection s (c .before .before .before .before .before .before .before .before .args .ran)) (c .before .givers-at .ensures ∙ rw (c .before .before .wide .ensures) refl)
+near c = c .intersection .ensures
+    ∙ ap (λ (s : Set). intersection s (c .before .before .before .before .before .before .before .before .args .ran)) (c .before .givers-at .ensures
+    ∙ rw (c .before .before .wide .ensures) refl)
 
 -- whether they are none of those so far
 apart : (c : tie.After-is-empty2 Inv-loop μ-loop) → let a = c .before .before .before .before .before .before .before .before .before .before .args in
-    isEmpty (intersection (c .before .before .before .before .before .before .before .before .before .loop .givers) (nearAt (tablesIn (a .tables .now)) (a .slot) (a .ran) (at (a .row .now) (c .before .before .before .before .before .before .lowest .result)))) ≡ c .is-empty2 .result
+    isEmpty (intersection (c .before .before .before .before .before .before .before .before .before .loop .givers)
+    (nearAt (tablesIn (a .tables .now)) (a .slot) (a .ran) (at (a .row .now) (c .before .before .before .before .before .before .lowest .result))))
+    ≡ c .is-empty2 .result
 apart c = rw (← (near (c .before .before)), ← (c .before .intersection2 .ensures)) (sym (c .is-empty2 .ensures))
 
 loop-holds : tie.Need-loop-holds Inv-loop μ-loop
@@ -92,7 +97,8 @@ rest-requires : tie.Need-rest-requires Inv-loop μ-loop
 rest-requires c κs = turned (c .before .before .before .before .before .before .before .before .before) .not-empty
 
 loop-less : tie.Need-loop-less Inv-loop μ-loop
-loop-less c = rw (c .rest .ensures ∙ turned (c .before .before .before .before .before .before .before .before .before .before) .rest-is) (turned (c .before .before .before .before .before .before .before .before .before .before) .less)
+loop-less c = rw (c .rest .ensures ∙ turned (c .before .before .before .before .before .before .before .before .before .before) .rest-is)
+    (turned (c .before .before .before .before .before .before .before .before .before .before) .less)
 
 loop-again : tie.Need-loop-again Inv-loop μ-loop
 unfolding pickFrom choose
@@ -100,9 +106,21 @@ loop-again c =
     let l = c .before .before .before .before .before .before .before .before .before .before .before .before .before .loop in
     let t = turned (c .before .before .before .before .before .before .before .before .before .before) in (
       search needs,
-      rw (c .rest .ensures ∙ t .rest-is) (subset-trans _ _ _ (without-subset (l .rest) (c .before .before .before .before .before .before .before .before .before .before .lowest .result)) (l .inv .1)),
-      rw (c .rest .ensures ∙ t .rest-is, c .before .union .ensures, c .before .before .with .ensures, near (c .before .before .before .before .before .before), c .before .before .before .before .before .before .before .before .wide .ensures)
-          (rw (t .first, apart (c .before .before .before .before) ∙ not-false (c .before .before .before .before .is-empty2 .result) (c .before .before .before .if2 .left)) at (l .inv .2)),
+      rw (c .rest .ensures ∙ t .rest-is)
+          (subset-trans _ _ _ (without-subset (l .rest) (c .before .before .before .before .before .before .before .before .before .before .lowest .result))
+          (l .inv .1)),
+      rw (
+        c .rest .ensures ∙ t .rest-is,
+        c .before .union .ensures,
+        c .before .before .with .ensures,
+        near (c .before .before .before .before .before .before),
+        c .before .before .before .before .before .before .before .before .wide .ensures,
+      )
+          (rw (
+            t .first,
+            apart (c .before .before .before .before)
+                ∙ not-false (c .before .before .before .before .is-empty2 .result) (c .before .before .before .if2 .left),
+          ) at (l .inv .2)),
     )
 
 returns-2 : tie.Need-returns-2 Inv-loop μ-loop

@@ -15,11 +15,15 @@ ready : (c : tie.After-intersection) → isSubset (c .before .before .before .ar
 ready c = sym (c .before .before .is-subset .ensures) ∙ not-false (c .before .before .is-subset .result) (c .before .if1 .left)
 
 -- whether none of them ran in the slot before
-none-near : (c : tie.After-is-empty) → isEmpty (intersection (c .before .before .before .before .before .before .before .before .args .givers) (c .before .before .before .before .before .before .before .before .args .ran)) ≡ c .is-empty .result
+none-near : (c : tie.After-is-empty)
+    → isEmpty (intersection (c .before .before .before .before .before .before .before .before .args .givers)
+    (c .before .before .before .before .before .before .before .before .args .ran)) ≡ c .is-empty .result
 none-near c = rw (← (c .before .before .before .before .before .intersection .ensures)) (sym (c .is-empty .ensures))
 
 -- whether one of them did
-one-near : (c : tie.After-is-one) → isOne (intersection (c .before .before .before .before .before .before .before .before .before .before .args .givers) (c .before .before .before .before .before .before .before .before .before .before .args .ran)) ≡ c .is-one .result
+one-near : (c : tie.After-is-one)
+    → isOne (intersection (c .before .before .before .before .before .before .before .before .before .before .args .givers)
+    (c .before .before .before .before .before .before .before .before .before .before .args .ran)) ≡ c .is-one .result
 one-near c = rw (← (c .before .before .before .before .before .before .before .intersection .ensures)) (sym (c .is-one .ensures))
 
 is-subset-requires : tie.Need-is-subset-requires
@@ -47,7 +51,12 @@ is-one-requires c κs = search needs
 
 returns-3 : tie.Need-returns-3
 unfolding sortPlace isForced isTied choose
-returns-3 c = rw (ready (c .before .before .before .before .before .before .before .before), none-near (c .before .before .before) ∙ c .before .before .if2 .left, one-near (c .before) ∙ not-true (c .before .is-one .result) (c .if3 .taken))
+returns-3 c = rw (
+  ready (c .before .before .before .before .before .before .before .before),
+  none-near (c .before .before .before)
+      ∙ c .before .before .if2 .left,
+  one-near (c .before) ∙ not-true (c .before .is-one .result) (c .if3 .taken),
+)
 
 with-requires-2 : tie.Need-with-requires-2
 with-requires-2 c κs = search needs
@@ -67,7 +76,8 @@ returns-4 c =
     rw (
       ready (c .before .before .before .before .before .before .before .before .before .before .before .before),
       none-near (c .before .before .before .before .before .before .before) ∙ c .before .before .before .before .before .before .if2 .left,
-      one-near (c .before .before .before .before .before) ∙ not-false (c .before .before .before .before .before .is-one .result) (c .before .before .before .before .if3 .left),
+      one-near (c .before .before .before .before .before)
+          ∙ not-false (c .before .before .before .before .before .is-one .result) (c .before .before .before .before .if3 .left),
       c .before .before .before .with2 .ensures,
       c .union2 .ensures,
       c .before .intersection2 .ensures,

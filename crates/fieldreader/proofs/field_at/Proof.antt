@@ -42,7 +42,11 @@ mul-len c =
 
 add-len : tie.Need-add-len
 add-len c =
-    omega (arith, c .before .shared-slice-known4 .given (c .before .before .before .before .before .before .before .args .at + 2), c .before .before .before .shared-slice-known3 .given (c .before .before .before .before .before .before .before .args .at + 1))
+    omega (
+      arith,
+      c .before .shared-slice-known4 .given (c .before .before .before .before .before .before .before .args .at + 2),
+      c .before .before .before .shared-slice-known3 .given (c .before .before .before .before .before .before .before .args .at + 1),
+    )
 
 add-start : tie.Need-add-start
 add-start c = search needs
@@ -52,7 +56,8 @@ sub-if2 c = search needs
 
 returns-2 : tie.Need-returns-2
 returns-2 c =
-    short-value _ _ _ _ _ (c .before .before .before .wide .ensures) (c .before .wide2 .ensures) (c .before .before .before .before .before .before .if1 .left) (c .if2 .taken)
+    short-value _ _ _ _ _ (c .before .before .before .wide .ensures) (c .before .wide2 .ensures) (c .before .before .before .before .before .before .if1 .left)
+    (c .if2 .taken)
 
 row-of-requires : tie.Need-row-of-requires
 row-of-requires c κs = search needs

@@ -42,8 +42,11 @@ loop-less c =
     omega arith
 
 loop-again : tie.Need-loop-again Inv-loop μ-loop
-loop-again c =
-    (omega arith, sym (name-byte _ _ (c .before .before .before .loop-test .taken) (c .before .if1 .left) (c .if2 .left)) ∙ c .before .before .before .before .loop .inv .1)
+loop-again c = (
+  omega arith,
+  sym (name-byte _ _ (c .before .before .before .loop-test .taken) (c .before .if1 .left) (c .if2 .left))
+      ∙ c .before .before .before .before .loop .inv .1,
+)
 
 returns-3 : tie.Need-returns-3 Inv-loop μ-loop
 returns-3 c =

@@ -27,7 +27,11 @@ mul-result c =
 
 add-result : tie.Need-add-result
 add-result c =
-    omega (arith, c .before .shared-slice-known3 .given (c .before .before .before .before .before .args .offset + 1), c .before .before .before .shared-slice-known2 .given (c .before .before .before .before .before .args .offset))
+    omega (
+      arith,
+      c .before .shared-slice-known3 .given (c .before .before .before .before .before .args .offset + 1),
+      c .before .before .before .shared-slice-known2 .given (c .before .before .before .before .before .args .offset),
+    )
 
 returns : tie.Need-returns
 unfolding word

@@ -13,7 +13,9 @@ enum-known-p c = search needs
 
 cast-result : tie.Need-cast-result
 cast-result c =
-    let h = table-few _ _ _ _ _ _ (c .before .before .before .before .before .before .before .plan .ensures) _ (c .before .p .given .1) (λ i. omega (arith, c .before .before .before .before .before .before .before .before .before .before .before .before .shared-slice-known .given i)) in omega arith
+    let h = table-few _ _ _ _ _ _ (c .before .before .before .before .before .before .before .plan .ensures) _ (c .before .p .given .1)
+    (λ i. omega (arith, c .before .before .before .before .before .before .before .before .before .before .before .before .shared-slice-known .given i)) in
+    omega arith
 
 enum-known-p-2 : tie.Need-enum-known-p-2
 enum-known-p-2 c = search needs

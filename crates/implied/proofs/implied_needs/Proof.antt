@@ -46,7 +46,7 @@ peeled c = c .peel .ensures
 no-circle : (c : tie.Else3) → NoCircle (is-read (to-file (c .before))) (c .before .peel .last .1 .1 .0)
 no-circle c = record {
   ok = c .before .peel .result;
-  dates = c .before .peel .last .1 .1 .1 .0;
+  releases = c .before .peel .last .1 .1 .1 .0;
   peeled = peeled (c .before);
   free = not-false _ (c .if3 .left);
 }

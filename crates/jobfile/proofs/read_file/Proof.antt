@@ -25,7 +25,8 @@ same-length c = search needs
 
 returns-2 : tie.Need-returns-2
 returns-2 c =
-    let r = c .before .before .before .read-fields .ensures in (all-asked _ (c .before .before .before .before .before .before .if1 .left) _ _ _ _ (c .complete .ensures) (r .0), r .1)
+    let r = c .before .before .before .read-fields .ensures in
+    (all-asked _ (c .before .before .before .before .before .before .if1 .left) _ _ _ _ (c .complete .ensures) (r .0), r .1)
 
 pub read-file-spec : {M : Type 1} → statement M
 read-file-spec =

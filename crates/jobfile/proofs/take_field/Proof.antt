@@ -67,8 +67,11 @@ returns-2 : tie.Need-returns-2
 returns-2 c =
     let w = c .before .before .take-need .ensures in
     let a = c .before .before .before .before .before .before .before .before .before .before .before .before .args in
-    let numbers = ap₂ (takeNeed _) (c .before .before .before .before .before .before .wide .ensures) (c .before .before .before .before .wide2 .ensures) in
-    (w .0 _ ∙ numbers ∙ one-byte _ (a .at) (a .v .now) ∙ by-tag _ 4 _ (a .at) (a .v .now) (c .before .before .before .before .before .before .before .before .if2 .taken), w .1)
+    let numbers = ap₂ (takeNeed _) (c .before .before .before .before .before .before .wide .ensures) (c .before .before .before .before .wide2 .ensures) in (
+      w .0 _ ∙ numbers ∙ one-byte _ (a .at) (a .v .now)
+          ∙ by-tag _ 4 _ (a .at) (a .v .now) (c .before .before .before .before .before .before .before .before .if2 .taken),
+      w .1,
+    )
 
 word-at-requires : tie.Need-word-at-requires
 unfolding fieldRow firstRow fieldRows choose
@@ -96,8 +99,13 @@ returns-3 : tie.Need-returns-3
 returns-3 c =
     let w = c .before .before .take-need2 .ensures in
     let a = c .before .before .before .before .before .before .before .before .before .before .before .before .before .args in
-    let numbers = ap₂ (takeNeed _) (c .before .before .before .before .before .before .index .ensures ∙ c .before .before .before .before .before .before .before .word-at .ensures) (c .before .before .before .before .index2 .ensures ∙ c .before .before .before .before .before .word-at2 .ensures) in
-    (w .0 _ ∙ numbers ∙ two-bytes _ (a .at) (a .v .now) ∙ by-tag _ 6 _ (a .at) (a .v .now) (c .before .before .before .before .before .before .before .before .if3 .taken), w .1)
+    let numbers = ap₂ (takeNeed _) (c .before .before .before .before .before .before .index .ensures
+    ∙ c .before .before .before .before .before .before .before .word-at .ensures) (c .before .before .before .before .index2 .ensures
+    ∙ c .before .before .before .before .before .word-at2 .ensures) in (
+      w .0 _ ∙ numbers ∙ two-bytes _ (a .at) (a .v .now)
+          ∙ by-tag _ 6 _ (a .at) (a .v .now) (c .before .before .before .before .before .before .before .before .if3 .taken),
+      w .1,
+    )
 
 take-limit-requires : tie.Need-take-limit-requires
 unfolding fieldRow firstRow fieldRows choose

@@ -20,8 +20,10 @@ refused-requires c κs = search needs
 
 returns : tie.Need-returns
 unfolding takeField contentOk ask choose
-returns c =
-    (answer-refused _ 6 _ _ (c .refused .ensures) (λ e. omega arith) ∙ simp (sym (c .before .before .name-ok .ensures) ∙ not-true _ (c .before .if1 .taken)), refl)
+returns c = (
+  answer-refused _ 6 _ _ (c .refused .ensures) (λ e. omega arith) ∙ simp (sym (c .before .before .name-ok .ensures) ∙ not-true _ (c .before .if1 .taken)),
+  refl,
+)
 
 refused-requires-2 : tie.Need-refused-requires-2
 refused-requires-2 c κs = search needs
@@ -59,8 +61,14 @@ returns-3 : tie.Need-returns-3
 unfolding answerOf takeField contentOk ask choose
 returns-3 c =
     let cleared = c .before .before .before .clear-row .ensures in (
-      simp (cleared, sym (c .before .before .before .before .before .before .before .name-ok .ensures) ∙ not-false _ (c .before .before .before .before .before .before .if1 .left), lt-ltb _ _ (c .before .before .before .before .before .if2 .left)),
-      rw cleared (length-withoutRow _ _ (let p = c .before .before .before .before .before .before .before .before .before .before .pre .4 in omega (arith, c .before .before .before .before .before .if2 .left))),
+      simp (
+        cleared,
+        sym (c .before .before .before .before .before .before .before .name-ok .ensures)
+            ∙ not-false _ (c .before .before .before .before .before .before .if1 .left),
+        lt-ltb _ _ (c .before .before .before .before .before .if2 .left),
+      ),
+      rw cleared (length-withoutRow _ _ (let p = c .before .before .before .before .before .before .before .before .before .before .pre .4 in
+          omega (arith, c .before .before .before .before .before .if2 .left))),
     )
 
 pub take-job-spec : {M : Type 1} → statement M

@@ -47,8 +47,11 @@ refused-requires-3 c κs = search needs
 
 returns-3 : tie.Need-returns-3
 returns-3 c =
-    let second = c .before .before in
-    (λ o. answer-refused _ 8 o _ (c .refused3 .ensures) (λ z. omega arith) ∙ sym (same-job _ _ _ (giver-in (second .before .before)) (taker-in second) (c .before .if3 .taken)), refl)
+    let second = c .before .before in (
+      λ o. answer-refused _ 8 o _ (c .refused3 .ensures) (λ z. omega arith)
+          ∙ sym (same-job _ _ _ (giver-in (second .before .before)) (taker-in second) (c .before .if3 .taken)),
+      refl,
+    )
 
 sub-add : tie.Need-sub-add
 sub-add c = let h = is-job-in _ _ (giver-in (c .before .before .before .before)) in omega arith
@@ -76,7 +79,8 @@ returns-4 c =
     let second = differ .before in
     let a = c .before .before .before .add .ensures in
     let n = ap (λ (x : Counts). x .number) (c .counted .ensures) in (
-      λ o. answer-got _ o _ n ∙ sym (need-linked _ _ _ (giver-in (second .before .before)) (taker-in second) (differ .if3 .left) ∙ rw (c .counted .ensures, a) refl),
+      λ o. answer-got _ o _ n ∙ sym (need-linked _ _ _ (giver-in (second .before .before)) (taker-in second) (differ .if3 .left)
+          ∙ rw (c .counted .ensures, a) refl),
       rw a (length-add _ _ _),
     )
 

@@ -68,8 +68,11 @@ add-next c =
 fit-requires : tie.Need-fit-requires Inv-loop μ-loop
 fit-requires c κs =
     let q = c .before .before .before .before .pre in
-    let l = c .before .before .loop in
-    (q .0, fitting (q .0) (q .1) _ _ _ _ _ _ _ _ _ (q .2) (l .has) (l .next) (l .tables) (l .path) (l .inv .1 (q .0) (q .1) (q .2)) (c .before .loop-test .taken))
+    let l = c .before .before .loop in (
+      q .0,
+      fitting (q .0) (q .1) _ _ _ _ _ _ _ _ _ (q .2) (l .has) (l .next) (l .tables) (l .path) (l .inv .1 (q .0) (q .1) (q .2))
+          (c .before .loop-test .taken),
+    )
 
 add-index : tie.Need-add-index Inv-loop μ-loop
 add-index c =
@@ -92,7 +95,13 @@ clear-requires c κs =
     let f = c .before .before .before in
     let l = to-loop f .loop in
     let q = to-start f .pre in
-    omega (arith, c .index .ensures, roomy f, bitmap-bytes (q .0) (q .1) _ _ _ _ _ _ _ _ _ (q .2) (l .has) (l .next) (l .tables) (l .path) (l .inv .1 (q .0) (q .1) (q .2)) (c .before .before .before .before .before .loop-test .taken) (f .fit .last .0) (fitted f (q .0) (q .1) (q .2)))
+    omega (
+      arith,
+      c .index .ensures,
+      roomy f,
+      bitmap-bytes (q .0) (q .1) _ _ _ _ _ _ _ _ _ (q .2) (l .has) (l .next) (l .tables) (l .path) (l .inv .1 (q .0) (q .1) (q .2))
+          (c .before .before .before .before .before .loop-test .taken) (f .fit .last .0) (fitted f (q .0) (q .1) (q .2)),
+    )
 
 explore-requires : tie.Need-explore-requires Inv-loop μ-loop
 explore-requires c κs =
@@ -100,9 +109,13 @@ explore-requires c κs =
     let l = to-loop f .loop in
     let q = to-start f .pre in
     let F = fitted f (q .0) (q .1) (q .2) in (
-      searchable (q .0) (q .1) _ _ _ _ _ _ _ _ _ (q .2) (l .has) (l .next) (l .tables) (l .path) (l .inv .1 (q .0) (q .1) (q .2)) (c .before .before .before .before .before .before .before .before .before .before .before .loop-test .taken) (f .fit .last .0) F _ (omega (arith, roomy f, c .before .before .before .before .before .clear .kept .0)),
-      reached (q .0) (q .1) _ _ _ _ _ _ _ _ _ (q .2) (l .has) (l .next) (l .tables) (l .path) (l .inv .1 (q .0) (q .1) (q .2)) (c .before .before .before .before .before .before .before .before .before .before .before .loop-test .taken) (f .fit .last .0) F,
-      none-due (q .0) (q .1) _ _ _ _ _ _ _ _ _ (q .2) (l .has) (l .next) (l .tables) (l .path) (l .inv .1 (q .0) (q .1) (q .2)) (c .before .before .before .before .before .before .before .before .before .before .before .loop-test .taken) (f .fit .last .0) F,
+      searchable (q .0) (q .1) _ _ _ _ _ _ _ _ _ (q .2) (l .has) (l .next) (l .tables) (l .path) (l .inv .1 (q .0) (q .1) (q .2))
+          (c .before .before .before .before .before .before .before .before .before .before .before .loop-test .taken) (f .fit .last .0) F _
+          (omega (arith, roomy f, c .before .before .before .before .before .clear .kept .0)),
+      reached (q .0) (q .1) _ _ _ _ _ _ _ _ _ (q .2) (l .has) (l .next) (l .tables) (l .path) (l .inv .1 (q .0) (q .1) (q .2))
+          (c .before .before .before .before .before .before .before .before .before .before .before .loop-test .taken) (f .fit .last .0) F,
+      none-due (q .0) (q .1) _ _ _ _ _ _ _ _ _ (q .2) (l .has) (l .next) (l .tables) (l .path) (l .inv .1 (q .0) (q .1) (q .2))
+          (c .before .before .before .before .before .before .before .before .before .before .before .loop-test .taken) (f .fit .last .0) F,
     )
 
 same-length : tie.Need-same-length Inv-loop μ-loop
@@ -113,9 +126,15 @@ returns : tie.Need-returns Inv-loop μ-loop
 returns c =
     let f = c .before .before .before .before .before .before .before .before .before .before .before .before .before in
     let l = to-loop f .loop in
-    λ W cap Q. is-found W cap _ _ _ _ _ _ _ _ _ Q (l .has) (l .next) (l .tables) (l .path) (l .inv .1 W cap Q) (c .before .before .before .before .before .before .before .before .before .before .before .before .before .before .before .loop-test .taken) (f .fit .last .0) (fitted f W cap Q) (l .dead) (roomy f) (c .before .before .before .explore .result)
-    (c .before .before .before .explore .ensures .0 ∙ ap (λ (d : List ℕ). exploredIn (f .fit .last .0) 0 empty empty d .plan .ok) (dead-is (c .before .before .before .before .before .before .before .before .before))) (c .if1 .taken) _
-    (c .before .before .before .explore .ensures .1 .0 ∙ ap (λ (d : List ℕ). written 0 (exploredIn (f .fit .last .0) 0 empty empty d .plan .sets) (l .path)) (dead-is (c .before .before .before .before .before .before .before .before .before)))
+    λ W cap Q. is-found W cap _ _ _ _ _ _ _ _ _ Q (l .has) (l .next) (l .tables) (l .path) (l .inv .1 W cap Q)
+    (c .before .before .before .before .before .before .before .before .before .before .before .before .before .before .before .loop-test .taken)
+    (f .fit .last .0) (fitted f W cap Q) (l .dead) (roomy f) (c .before .before .before .explore .result)
+    (c .before .before .before .explore .ensures .0
+    ∙ ap (λ (d : List ℕ). exploredIn (f .fit .last .0) 0 empty empty d .plan .ok)
+    (dead-is (c .before .before .before .before .before .before .before .before .before))) (c .if1 .taken) _
+    (c .before .before .before .explore .ensures .1 .0
+    ∙ ap (λ (d : List ℕ). written 0 (exploredIn (f .fit .last .0) 0 empty empty d .plan .sets) (l .path))
+    (dead-is (c .before .before .before .before .before .before .before .before .before)))
 
 loop-less : tie.Need-loop-less Inv-loop μ-loop
 loop-less c =
@@ -126,8 +145,12 @@ loop-again c =
     let f = c .before .before .before .before .before .before .before .before .before .before .before .before .before in
     let l = to-loop f .loop in (
       c .before .before .before .explore .kept .1 .0 ∙ c .before .before .before .before .before .before .before .before .before .clear .kept .0 ∙ l .inv .0,
-      λ W cap Q. rw add-one (not-found W cap _ _ _ _ _ _ _ _ _ Q (l .has) (l .next) (l .tables) (l .path) (l .inv .1 W cap Q) (c .before .before .before .before .before .before .before .before .before .before .before .before .before .before .before .loop-test .taken) (f .fit .last .0) (fitted f W cap Q) (l .dead) (roomy f) (c .before .before .before .explore .result)
-          (c .before .before .before .explore .ensures .0 ∙ ap (λ (d : List ℕ). exploredIn (f .fit .last .0) 0 empty empty d .plan .ok) (dead-is (c .before .before .before .before .before .before .before .before .before))) (c .if1 .left) _
+      λ W cap Q. rw add-one (not-found W cap _ _ _ _ _ _ _ _ _ Q (l .has) (l .next) (l .tables) (l .path) (l .inv .1 W cap Q)
+          (c .before .before .before .before .before .before .before .before .before .before .before .before .before .before .before .loop-test .taken)
+          (f .fit .last .0) (fitted f W cap Q) (l .dead) (roomy f) (c .before .before .before .explore .result)
+          (c .before .before .before .explore .ensures .0
+          ∙ ap (λ (d : List ℕ). exploredIn (f .fit .last .0) 0 empty empty d .plan .ok)
+          (dead-is (c .before .before .before .before .before .before .before .before .before))) (c .if1 .left) _
           (ap length (c .before .before .before .explore .ensures .1 .0) ∙ length-written _ 0 (l .path) ∙ l .inv .1 W cap Q .path-len)),
     )
 
@@ -137,7 +160,8 @@ same-length-2 c =
 
 returns-2 : tie.Need-returns-2 Inv-loop μ-loop
 returns-2 c =
-    λ W cap Q. ends W cap _ _ _ _ _ _ _ _ _ Q (c .before .loop .has) (c .before .loop .next) (c .before .loop .tables) (c .before .loop .path) (c .before .loop .inv .1 W cap Q) (c .loop-test .left)
+    λ W cap Q. ends W cap _ _ _ _ _ _ _ _ _ Q (c .before .loop .has) (c .before .loop .next) (c .before .loop .tables) (c .before .loop .path)
+    (c .before .loop .inv .1 W cap Q) (c .loop-test .left)
 
 pub search-spec : {M : Type 1} → statement M
 search-spec =

@@ -74,7 +74,9 @@ loop-again c =
       search needs,
       rw (c .rest .ensures, u .rest-is) (λ p m. l .inv .1 p (without-subset (l .rest) (c .before .before .lowest .result) p m)),
       rw (c .rest .ensures, u .rest-is)
-          (start-turn (tablesIn (c .before .before .before .before .before .before .args .tables .now) .who (c .before .before .before .before .before .before .args .slot)) (c .before .before .before .before .before .before .args .slot) (l .rest) (c .before .before .lowest .result) (l .starts) _ u
+          (start-turn (tablesIn (c .before .before .before .before .before .before .args .tables .now) .who
+          (c .before .before .before .before .before .before .args .slot)) (c .before .before .before .before .before .before .args .slot) (l .rest)
+          (c .before .before .lowest .result) (l .starts) _ u
           (ap (λ i. set (l .starts) i (c .before .before .before .before .before .before .args .slot)) (c .before .job-at .ensures)) ∙ l .inv .2),
     )
 

@@ -20,19 +20,20 @@ abbrev μ-loop : tie.MeasureT-loop
 μ-loop tables path slots starts₀ slot₀ starts slot = slots - slot
 
 -- the set of the slot
-set-is : (c : tie.After-set-of Inv-loop μ-loop) → c .set-of .result ≡ setAt (c .before .before .before .before .args .path .now) (c .before .before .before .loop .slot)
-set-is c = ap (λ (x : ℕ). record { bits = x }) (c .set-of .ensures)
+set-is : (c : tie.After-of-byte Inv-loop μ-loop) → c .of-byte .result
+    ≡ setAt (c .before .before .before .before .args .path .now) (c .before .before .before .loop .slot)
+set-is c = ap (λ (x : ℕ). record { bits = x }) (c .of-byte .ensures .0)
 
 loop-holds : tie.Need-loop-holds Inv-loop μ-loop
 loop-holds c =
     refl
 
-element-copy-out-set-of : tie.Need-element-copy-out-set-of Inv-loop μ-loop
-element-copy-out-set-of c =
+element-copy-out-of-byte : tie.Need-element-copy-out-of-byte Inv-loop μ-loop
+element-copy-out-of-byte c =
     search needs
 
-set-of-requires : tie.Need-set-of-requires Inv-loop μ-loop
-set-of-requires c κs =
+of-byte-requires : tie.Need-of-byte-requires Inv-loop μ-loop
+of-byte-requires c κs =
     search needs
 
 start-all-requires : tie.Need-start-all-requires Inv-loop μ-loop
@@ -53,8 +54,10 @@ loop-again c =
     let l = c .before .before .before .before .before .loop in
     let a = c .before .before .before .before .before .before .args in
     let p = c .before .before .before .before .before .before .pre in
-    rw (add-one) (slot-turn (tablesIn (a .tables .now)) (l .slot) (a .slots) (a .path .now) (l .starts) _ (c .before .before .before .before .loop-test .taken) (omega arith)
-    (c .start-all .ensures ∙ ap (λ (S : Set). place (l .slot) (jobsUp (tablesIn (a .tables .now) .who (l .slot)) S) (l .starts)) (set-is (c .before .before))) ∙ l .inv)
+    rw (add-one) (slot-turn (tablesIn (a .tables .now)) (l .slot) (a .slots) (a .path .now) (l .starts) _ (c .before .before .before .before .loop-test .taken)
+    (omega arith)
+    (c .start-all .ensures ∙ ap (λ (S : Set). place (l .slot) (jobsUp (tablesIn (a .tables .now) .who (l .slot)) S) (l .starts)) (set-is (c .before .before)))
+    ∙ l .inv)
 
 returns : tie.Need-returns Inv-loop μ-loop
 returns c =
@@ -70,8 +73,8 @@ starts-of-spec =
     Inv-loop
     μ-loop
     loop-holds
-    element-copy-out-set-of
-    set-of-requires
+    element-copy-out-of-byte
+    of-byte-requires
     start-all-requires
     add-slot
     loop-less

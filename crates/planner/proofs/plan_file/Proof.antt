@@ -43,7 +43,8 @@ same-length c =
 
 returns : tie.Need-returns
 returns c =
-    read-refused (c .before .before .before .read-file .ensures .0) (c .before .before .before .before .before .before .before .before .before .args .table .now) (c .if1 .taken)
+    read-refused (c .before .before .before .read-file .ensures .0)
+    (c .before .before .before .before .before .before .before .before .before .args .table .now) (c .if1 .taken)
 
 peel-requires : tie.Need-peel-requires
 peel-requires c κs =
@@ -58,8 +59,11 @@ returns-2 c =
     refused-11 (read (c .before .before .before .before .before)) _ (peeled (c .before) .answer) _ (not-true _ (c .if2 .taken))
 
 tails-requires : tie.Need-tails-requires
-tails-requires c κs =
-    (order-of (read (c .before .before .before .before .before .before .before .before)) _ _ _ (peeled (c .before .before .before .before)) (not-false _ (c .before .before .before .if2 .left)), length-replicate {A = ℕ} 400 0)
+tails-requires c κs = (
+  order-of (read (c .before .before .before .before .before .before .before .before)) _ _ _ (peeled (c .before .before .before .before))
+      (not-false _ (c .before .before .before .if2 .left)),
+  length-replicate {A = ℕ} 400 0,
+)
 
 most-boards-requires : tie.Need-most-boards-requires
 most-boards-requires c κs =
@@ -68,16 +72,22 @@ most-boards-requires c κs =
 plan-windows-requires : tie.Need-plan-windows-requires
 plan-windows-requires c κs =
     let j = read (c .before .before .before .before .before .before .before .before .before .before .before .before .before .before .before) in
-    let r = c .before .before .before .before .before .before .before .before .before .before .before .before .before .before .before .before .before .before .read-file in
-    let p = c .before .before .before .before .before .before .before .before .before .before .before .before .before .before .before .before .before .before .before .before .before .before .before .before .pre in (
+    let r = c .before .before .before .before .before .before .before .before .before .before .before .before .before .before .before .before .before .before
+    .read-file in
+    let p = c .before .before .before .before .before .before .before .before .before .before .before .before .before .before .before .before .before .before
+    .before .before .before .before .before .before .pre in (
       omega (arith, p .0, r .ensures .1),
       p .1,
-      levels-read j _ _ _ (peeled (c .before .before .before .before .before .before .before .before .before .before .before)) (not-false _ (c .before .before .before .before .before .before .before .before .before .before .if2 .left)) _ _ (boards-read (r .ensures .0) j _ (c .before .before .most-boards .ensures)) (c .before .before .before .before .before .before .tails .ensures),
+      levels-read j _ _ _ (peeled (c .before .before .before .before .before .before .before .before .before .before .before))
+          (not-false _ (c .before .before .before .before .before .before .before .before .before .before .if2 .left)) _ _
+          (boards-read (r .ensures .0) j _ (c .before .before .most-boards .ensures)) (c .before .before .before .before .before .before .tails .ensures),
     )
 
 same-length-3 : tie.Need-same-length-3
 same-length-3 c =
-    c .before .before .before .before .plan-windows .kept .1 .1 .1 .1 .1 .1 .1 .0 ∙ c .before .before .before .before .before .before .before .before .before .before .before .before .before .before .before .before .before .before .before .before .before .before .before .read-file .kept .1 .1 .0
+    c .before .before .before .before .plan-windows .kept .1 .1 .1 .1 .1 .1 .1 .0
+    ∙ c .before .before .before .before .before .before .before .before .before .before .before .before .before .before .before .before .before .before
+    .before .before .before .before .before .read-file .kept .1 .1 .0
 
 same-length-4 : tie.Need-same-length-4
 same-length-4 c =

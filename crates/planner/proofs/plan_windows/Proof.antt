@@ -33,7 +33,8 @@ first : (c : tie.After-path) → let a = to-start (to-seats c) .args in
     c .before .before .before .before .first-length .result ≡ firstLength (leastOf (a .release .now) (a .tail .now) (a .jobs)) (a .jobs) (a .boards)
 first c =
     let a = to-start (to-seats c) .args in
-    c .before .before .before .before .first-length .ensures ∙ ap (λ (k : ℕ). firstLength k (a .jobs) (a .boards)) (c .before .before .before .before .before .least .ensures)
+    c .before .before .before .before .first-length .ensures
+    ∙ ap (λ (k : ℕ). firstLength k (a .jobs) (a .boards)) (c .before .before .before .before .before .least .ensures)
 
 -- what the search is asked, and what it finds
 asked : (c : tie.After-path) → let s = to-seats c .seat-all in let z = to-start (to-seats c) in let a = z .args in
@@ -82,12 +83,14 @@ same-length-2 c =
 returns-2 : tie.Need-returns-2
 returns-2 c =
     let e = c .before .before .before .before in
-    refused-13 (c .before .before .before .before .before .before .before .before .before .before .before .before .before .before .before .before .before .before .pre .2) (seated (to-seats e)) (enough e) (found (c .before .before .before)) _ (c .if2 .taken)
+    refused-13 (c .before .before .before .before .before .before .before .before .before .before .before .before .before .before .before .before .before
+    .before .pre .2) (seated (to-seats e)) (enough e) (found (c .before .before .before)) _ (c .if2 .taken)
 
 write-plan-requires : tie.Need-write-plan-requires
 write-plan-requires c κs =
     let e = c .before .before .before .before .before .before .before in
-    let p = c .before .before .before .before .before .before .before .before .before .before .before .before .before .before .before .before .before .before .before .before .before .pre in
+    let p = c .before .before .before .before .before .before .before .before .before .before .before .before .before .before .before .before .before .before
+    .before .before .before .pre in
     (p .1, plan-read (p .2) (seated (to-seats e)) (enough e) (found (c .before .before .before .before .before .before)) (c .before .before .before .if2 .left))
 
 same-length-3 : tie.Need-same-length-3

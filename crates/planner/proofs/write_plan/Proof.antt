@@ -21,7 +21,8 @@ cast-write-table c =
 
 cast-write-table-2 : tie.Need-cast-write-table-2
 cast-write-table-2 c =
-    let l = count-few (c .before .before .before .before .before .before .before .before .pre .1) _ (c .before .before .before .before .starts-of .ensures) _ _ (c .before .before .place .ensures) in search needs
+    let l = count-few (c .before .before .before .before .before .before .before .before .pre .1) _ (c .before .before .before .before .starts-of .ensures) _ _
+    (c .before .before .place .ensures) in search needs
 
 write-table-requires : tie.Need-write-table-requires
 write-table-requires c κs =
@@ -34,7 +35,9 @@ same-length c =
 returns : tie.Need-returns
 returns c =
     let w = c .before .before .write-table .ensures in
-    table-written (c .before .before .before .before .before .before .before .before .before .before .before .before .pre .1) _ (c .before .before .before .before .before .before .before .before .starts-of .ensures) _ _ (c .before .before .before .before .before .before .place .ensures) _ _ _ (w .0) (w .1)
+    table-written (c .before .before .before .before .before .before .before .before .before .before .before .before .pre .1) _
+    (c .before .before .before .before .before .before .before .before .starts-of .ensures) _ _
+    (c .before .before .before .before .before .before .place .ensures) _ _ _ (w .0) (w .1)
 
 pub write-plan-spec : {M : Type 1} → statement M
 write-plan-spec =

@@ -4,7 +4,7 @@ use native.Mathlib.Omega.{arith}
 use mathlib.Core.Path.{_≡_, sym, ap, ap₂, _∙_}
 use mathlib.Core.Bool.{true, not}
 use Prim.Native.Nat.{ℕ, _-_, _<_}
-use lib.ListN.{length, set}
+use lib.ListN.{length}
 use Rattle.rules.specs.Sizes.{maxLimit}
 use Rattle.rules.specs.Basics.{at}
 use Rattle.laws.specs.Loops.{AllSoFar, all-start, all-yes, all-no, all-end, all-failed}
@@ -21,14 +21,26 @@ abbrev μ-loop : tie.MeasureT-loop
 μ-loop start board taken₀ i₀ taken i = length start - i
 
 -- the row's start and board, and their bounds
-slot-is : (c : tie.After-wide2 Inv-loop μ-loop) → let i = c .before .before .before .before .before .loop .i in (c .before .before .wide .result ≡ at (c .before .before .before .before .before .before .before .before .args .start .now) i) × (at (c .before .before .before .before .before .before .before .before .args .start .now) i < maxLimit)
-slot-is c = (c .before .before .wide .ensures, c .before .before .before .before .before .before .before .before .pre .1 _ (c .before .before .before .before .loop-test .taken) .0)
+slot-is : (c : tie.After-wide2 Inv-loop μ-loop) → let i = c .before .before .before .before .before .loop .i in
+    (c .before .before .wide .result ≡ at (c .before .before .before .before .before .before .before .before .args .start .now) i)
+    × (at (c .before .before .before .before .before .before .before .before .args .start .now) i < maxLimit)
+slot-is c = (
+  c .before .before .wide .ensures,
+  c .before .before .before .before .before .before .before .before .pre .1 _ (c .before .before .before .before .loop-test .taken) .0,
+)
 
-board-is : (c : tie.After-wide2 Inv-loop μ-loop) → let i = c .before .before .before .before .before .loop .i in (c .wide2 .result ≡ at (c .before .before .before .before .before .before .before .before .args .board .now) i) × (at (c .before .before .before .before .before .before .before .before .args .board .now) i < 64)
-board-is c = (c .wide2 .ensures, c .before .before .before .before .before .before .before .before .pre .1 _ (c .before .before .before .before .loop-test .taken) .1)
+board-is : (c : tie.After-wide2 Inv-loop μ-loop) → let i = c .before .before .before .before .before .loop .i in
+    (c .wide2 .result ≡ at (c .before .before .before .before .before .before .before .before .args .board .now) i)
+    × (at (c .before .before .before .before .before .before .before .before .args .board .now) i < 64)
+board-is c = (
+  c .wide2 .ensures,
+  c .before .before .before .before .before .before .before .before .pre .1 _ (c .before .before .before .before .loop-test .taken) .1,
+)
 
 -- whether its cell is taken
-told : (c : tie.After-has Inv-loop μ-loop) → c .has .result ≡ shared (c .before .before .before .before .before .before .before .before .before .args .start .now) (c .before .before .before .before .before .before .before .before .before .args .board .now) (c .before .before .before .before .before .before .loop .i)
+told : (c : tie.After-has Inv-loop μ-loop) → c .has .result
+    ≡ shared (c .before .before .before .before .before .before .before .before .before .args .start .now)
+    (c .before .before .before .before .before .before .before .before .before .args .board .now) (c .before .before .before .before .before .before .loop .i)
 unfolding shared
 told c =
     let d = c .before in
@@ -69,7 +81,8 @@ has-requires c κs =
 
 returns : tie.Need-returns Inv-loop μ-loop
 returns c =
-    all-failed (all-no (c .before .before .before .before .before .before .before .loop .inv .0) (c .before .before .before .before .before .before .loop-test .taken) (ap not (sym (told (c .before)) ∙ c .if1 .taken))) ∙ apart-is _ _ _
+    all-failed (all-no (c .before .before .before .before .before .before .before .loop .inv .0)
+    (c .before .before .before .before .before .before .loop-test .taken) (ap not (sym (told (c .before)) ∙ c .if1 .taken))) ∙ apart-is _ _ _
 
 with-requires : tie.Need-with-requires Inv-loop μ-loop
 with-requires c κs =
@@ -95,7 +108,8 @@ loop-again : tie.Need-loop-again Inv-loop μ-loop
 loop-again c =
     let d = c .before .before .before in
     let l = c .before .before .before .before .before .before .before .before .loop in (
-      all-yes (l .inv .0) (c .before .before .before .before .before .before .before .loop-test .taken) (ap not (sym (told (c .before .before)) ∙ c .before .if1 .left)),
+      all-yes (l .inv .0) (c .before .before .before .before .before .before .before .loop-test .taken)
+          (ap not (sym (told (c .before .before)) ∙ c .before .if1 .left)),
       rw (c .with .ensures, slot-is d .0, board-is d .0) (more-taken _ _ _ _ (slot-is d .1) (board-is d .1) (l .inv .1)),
     )
 

@@ -33,7 +33,9 @@ same-name-requires c κs = search needs
 
 returns : tie.Need-returns
 returns c =
-    other-name _ _ (ap₂ sameName (sym (take-rest 2 (c .before .before .before .before .before .before .args .job .now))) (sym (take-rest 4 (c .before .before .before .before .before .before .args .row .now))) ∙ sym (c .before .same-name .ensures) ∙ not-true _ (c .if1 .taken))
+    other-name _ _ (ap₂ sameName (sym (take-rest 2 (c .before .before .before .before .before .before .args .job .now)))
+    (sym (take-rest 4 (c .before .before .before .before .before .before .args .row .now))) ∙ sym (c .before .same-name .ensures)
+    ∙ not-true _ (c .if1 .taken))
 
 word-at-requires : tie.Need-word-at-requires
 word-at-requires c κs = search needs
@@ -46,7 +48,12 @@ word-at-requires-2 c κs = search needs
 
 returns-2 : tie.Need-returns-2
 returns-2 c =
-    level-by _ _ (λ i. omega (arith, c .before .before .before .before .before .before .before .before .shared-slice-known .given i)) (λ i. omega (arith, c .before .before .before .before .before .before .before .shared-slice-known2 .given i)) (ap₂ sameName (sym (take-rest 2 (c .before .before .before .before .before .before .before .before .before .args .job .now))) (sym (take-rest 4 (c .before .before .before .before .before .before .before .before .before .args .row .now))) ∙ sym (c .before .before .before .before .same-name .ensures) ∙ not-false _ (c .before .before .before .if1 .left)) _ _ (c .before .centimetres .ensures ∙ ap rounded (c .before .before .word-at .ensures)) (c .word-at2 .ensures)
+    level-by _ _ (λ i. omega (arith, c .before .before .before .before .before .before .before .before .shared-slice-known .given i))
+    (λ i. omega (arith, c .before .before .before .before .before .before .before .shared-slice-known2 .given i))
+    (ap₂ sameName (sym (take-rest 2 (c .before .before .before .before .before .before .before .before .before .args .job .now)))
+    (sym (take-rest 4 (c .before .before .before .before .before .before .before .before .before .args .row .now)))
+    ∙ sym (c .before .before .before .before .same-name .ensures) ∙ not-false _ (c .before .before .before .if1 .left)) _ _ (c .before .centimetres .ensures
+    ∙ ap rounded (c .before .before .word-at .ensures)) (c .word-at2 .ensures)
 
 pub labelled-row-spec : {M : Type 1} → statement M
 labelled-row-spec =

@@ -42,8 +42,17 @@ loop-less c =
     omega arith
 
 loop-again : tie.Need-loop-again Inv-loop μ-loop
-loop-again c =
-    (omega arith, omega (arith, c .before .wide .ensures, c .greater .ensures, largest-next (c .before .before .before .before .before .before .args .list .now) (c .before .before .before .before .loop .most) (c .before .before .before .before .loop .i) (c .before .before .before .loop-test .taken), c .before .before .before .before .loop .inv .1))
+loop-again c = (
+  omega arith,
+  omega (
+    arith,
+    c .before .wide .ensures,
+    c .greater .ensures,
+    largest-next (c .before .before .before .before .before .before .args .list .now) (c .before .before .before .before .loop .most)
+        (c .before .before .before .before .loop .i) (c .before .before .before .loop-test .taken),
+    c .before .before .before .before .loop .inv .1,
+  ),
+)
 
 returns : tie.Need-returns Inv-loop μ-loop
 returns c =

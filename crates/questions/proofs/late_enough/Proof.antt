@@ -27,7 +27,12 @@ shared-slice-read-if1-2 c = search needs
 
 add-result : tie.Need-add-result
 add-result c =
-    omega (arith, c .before .before .before .before .before .wide .ensures, c .before .before .before .before .before .before .shared-slice-known3 .given (c .before .before .before .before .before .before .before .before .before .args .giver))
+    omega (
+      arith,
+      c .before .before .before .before .before .wide .ensures,
+      c .before .before .before .before .before .before .shared-slice-known3 .given
+          (c .before .before .before .before .before .before .before .before .before .args .giver),
+    )
 
 returns : tie.Need-returns
 unfolding lateEnough choose
@@ -36,7 +41,12 @@ returns c =
 
 add-result-2 : tie.Need-add-result-2
 add-result-2 c =
-    omega (arith, c .before .before .before .before .before .wide .ensures, c .before .before .before .before .before .before .shared-slice-known3 .given (c .before .before .before .before .before .before .before .before .before .args .giver))
+    omega (
+      arith,
+      c .before .before .before .before .before .wide .ensures,
+      c .before .before .before .before .before .before .shared-slice-known3 .given
+          (c .before .before .before .before .before .before .before .before .before .args .giver),
+    )
 
 returns-2 : tie.Need-returns-2
 unfolding lateEnough choose

@@ -1,5 +1,4 @@
 -- `questions::needs_kept` meets its contract. Assumes nothing.
-use borrow.Author.Needs.{needs}
 use native.Mathlib.Omega.{arith}
 use mathlib.Core.Path.{sym, _∙_}
 use mathlib.Core.Bool.{true}
@@ -28,7 +27,8 @@ row-kept-requires c κs =
 returns : tie.Need-returns Inv-loop μ-loop
 unfolding rowsKept
 returns c =
-    all-failed (all-no (c .before .before .before .loop .inv) (c .before .before .loop-test .taken) (sym (c .before .row-kept .ensures) ∙ not-true _ (c .if1 .taken)))
+    all-failed (all-no (c .before .before .before .loop .inv) (c .before .before .loop-test .taken) (sym (c .before .row-kept .ensures)
+    ∙ not-true _ (c .if1 .taken)))
 
 add-giver : tie.Need-add-giver Inv-loop μ-loop
 add-giver c =

@@ -1,14 +1,10 @@
 -- `questions::row_kept` meets its contract: before each turn, the takers from word w on are kept where all are. Assumes nothing.
-use borrow.Author.Needs.{needs}
 use native.Mathlib.Omega.{arith}
 use mathlib.Core.Path.{_≡_, refl, sym, _∙_}
-use mathlib.Core.Bool.{_&&_}
-use mathlib.Core.List.{List·Memᴰ}
 use borrow.Author.Tests.{not-true, not-false}
 use Prim.Native.Nat.{ℕ, _+_, _*_, _-_, _≤_, _<_}
 use lib.ListN.{length}
 use Rattle.laws.specs.Lists.{map-mem}
-use Rattle.jobset.specs.Sets.{members}
 use Rattle.needrows.specs.Rows.{wordBits, wordsFor, wordAt}
 use Rattle.needrows.specs.Takers.{word-within}
 use Rattle.questions.specs.Questions.{WordIn, wordKept, keptBehind}
@@ -28,13 +24,17 @@ inside : (c : tie.Then1 Inv-loop μ-loop) → c .before .before .loop .w < words
 inside c = omega (arith, c .before .words .ensures, c .if1 .taken)
 
 -- its takers are jobs
-word-in : (c : tie.After-word Inv-loop μ-loop) → WordIn (length (c .before .before .before .before .before .before .before .args .start .now)) (wordBits * c .before .before .before .loop .w) (c .word .result)
+word-in : (c : tie.After-word Inv-loop μ-loop)
+    → WordIn (length (c .before .before .before .before .before .before .before .args .start .now)) (wordBits * c .before .before .before .loop .w)
+    (c .word .result)
 word-in c j m =
     let p = c .before .before .before .before .before .before .before .pre in
-    p .2 .takers-in _ _ (p .0) (word-within _ _ _ _ _ (inside (c .before)) (map-mem (λ (i : ℕ). wordBits * c .before .before .before .loop .w + i) _ j (rw (c .word .ensures) at m)))
+    p .2 .takers-in _ _ (p .0) (word-within _ _ _ _ _ (inside (c .before))
+    (map-mem (λ (i : ℕ). wordBits * c .before .before .before .loop .w + i) _ j (rw (c .word .ensures) at m)))
 
 -- the answer for the word
-told : (c : tie.After-word-kept Inv-loop μ-loop) → let a = c .before .before .before .before .before .before .before .before .args in let w = c .before .before .before .before .loop .w in
+told : (c : tie.After-word-kept Inv-loop μ-loop) → let a = c .before .before .before .before .before .before .before .before .args in
+    let w = c .before .before .before .before .loop .w in
     c .word-kept .result ≡ wordKept (a .start .now) (a .board .now) (a .giver) (wordBits * w) (wordAt (a .rows .now) (a .giver) w)
 told c = rw (← (c .before .word .ensures)) (c .word-kept .ensures)
 
@@ -61,11 +61,13 @@ word-kept-requires c κs =
 
 returns : tie.Need-returns Inv-loop μ-loop
 returns c =
-    and-first-no _ (word-next _ _ _ _ _ (inside (c .before .before .before))) (sym (told (c .before)) ∙ not-true _ (c .if2 .taken)) ∙ c .before .before .before .before .before .loop .inv .1
+    and-first-no _ (word-next _ _ _ _ _ (inside (c .before .before .before))) (sym (told (c .before)) ∙ not-true _ (c .if2 .taken))
+    ∙ c .before .before .before .before .before .loop .inv .1
 
 add-w : tie.Need-add-w Inv-loop μ-loop
 add-w c =
-    let h = inside (c .before .before .before) in let p = c .before .before .before .before .before .before .before .before .before .pre .2 in omega (arith, p .few)
+    let h = inside (c .before .before .before) in let p = c .before .before .before .before .before .before .before .before .before .pre .2 in
+    omega (arith, p .few)
 
 loop-less : tie.Need-loop-less Inv-loop μ-loop
 loop-less c =
@@ -73,8 +75,11 @@ loop-less c =
 
 loop-again : tie.Need-loop-again Inv-loop μ-loop
 loop-again c =
-    let h = inside (c .before .before .before) in
-    (omega arith, and-first-yes (word-next _ _ _ _ _ h) (sym (told (c .before)) ∙ not-false _ (c .if2 .left)) ∙ c .before .before .before .before .before .loop .inv .1)
+    let h = inside (c .before .before .before) in (
+      omega arith,
+      and-first-yes (word-next _ _ _ _ _ h) (sym (told (c .before)) ∙ not-false _ (c .if2 .left))
+          ∙ c .before .before .before .before .before .loop .inv .1,
+    )
 
 returns-2 : tie.Need-returns-2 Inv-loop μ-loop
 returns-2 c =

@@ -14,7 +14,11 @@ largest-of-requires c κs =
 
 add-if1 : tie.Need-add-if1
 add-if1 c =
-    omega (arith, c .largest-of .ensures, largest-lt (c .before .before .before .args .start .now) 256 (omega arith) (λ i h. omega (arith, c .before .before .shared-slice-known .given i)))
+    omega (
+      arith,
+      c .largest-of .ensures,
+      largest-lt (c .before .before .before .args .start .now) 256 (omega arith) (λ i h. omega (arith, c .before .before .shared-slice-known .given i)),
+    )
 
 returns : tie.Need-returns
 returns c =
@@ -30,7 +34,8 @@ all-positive-requires c κs =
 
 returns-3 : tie.Need-returns-3
 returns-3 c =
-    zero-board _ _ _ _ _ _ _ (c .before .before .before .before .largest-of .ensures) (c .before .before .before .if1 .left) (c .before .before .if2 .left) (sym (c .before .all-positive .ensures) ∙ not-true _ (c .if3 .taken))
+    zero-board _ _ _ _ _ _ _ (c .before .before .before .before .largest-of .ensures) (c .before .before .before .if1 .left) (c .before .before .if2 .left)
+    (sym (c .before .all-positive .ensures) ∙ not-true _ (c .if3 .taken))
 
 largest-of-requires-2 : tie.Need-largest-of-requires-2
 largest-of-requires-2 c κs =
@@ -38,11 +43,15 @@ largest-of-requires-2 c κs =
 
 returns-4 : tie.Need-returns-4
 returns-4 c =
-    wrong-boards _ _ _ _ _ _ _ (c .before .before .before .before .before .before .largest-of .ensures) (c .before .before .before .before .before .if1 .left) (c .before .before .before .before .if2 .left) (sym (c .before .before .before .all-positive .ensures) ∙ not-false _ (c .before .before .if3 .left)) _ (c .before .largest-of2 .ensures) (c .if4 .taken)
+    wrong-boards _ _ _ _ _ _ _ (c .before .before .before .before .before .before .largest-of .ensures) (c .before .before .before .before .before .if1 .left)
+    (c .before .before .before .before .if2 .left) (sym (c .before .before .before .all-positive .ensures) ∙ not-false _ (c .before .before .if3 .left)) _
+    (c .before .largest-of2 .ensures) (c .if4 .taken)
 
 returns-5 : tie.Need-returns-5
 returns-5 c =
-    boards-by _ _ _ _ _ _ _ (c .before .before .before .before .before .before .largest-of .ensures) (c .before .before .before .before .before .if1 .left) (c .before .before .before .before .if2 .left) (sym (c .before .before .before .all-positive .ensures) ∙ not-false _ (c .before .before .if3 .left)) _ (c .before .largest-of2 .ensures) (c .if4 .left)
+    boards-by _ _ _ _ _ _ _ (c .before .before .before .before .before .before .largest-of .ensures) (c .before .before .before .before .before .if1 .left)
+    (c .before .before .before .before .if2 .left) (sym (c .before .before .before .all-positive .ensures) ∙ not-false _ (c .before .before .if3 .left)) _
+    (c .before .largest-of2 .ensures) (c .if4 .left)
 
 pub sized-spec : {M : Type 1} → statement M
 sized-spec =

@@ -5,7 +5,7 @@ use mathlib.Core.Path.{_≡_, refl, sym, _∙_}
 use mathlib.Core.Bool.{_&&_}
 use mathlib.Core.List.{List·Memᴰ·head, List·Memᴰ·tail}
 use borrow.Author.Tests.{not-true, not-false}
-use Prim.Native.Nat.{ℕ, _+_, _<_, _^_}
+use Prim.Native.Nat.{_+_, _<_, _^_}
 use lib.ListN.{length}
 use Rattle.jobset.specs.Sets.{without}
 use Rattle.jobset.specs.Members.{Turn, turn, end}
@@ -23,16 +23,20 @@ abbrev μ-loop : tie.MeasureT-loop
 
 -- what a turn knows
 turned : (c : tie.After-lowest Inv-loop μ-loop) → Turn (c .before .before .before .loop .rest) (c .lowest .result)
-turned c = turn (c .before .before .before .loop .rest) (c .before .before .is-empty .result) (c .lowest .result) (c .before .before .before .loop .inv .0) (c .before .before .is-empty .ensures) (c .before .if1 .taken) (c .lowest .ensures)
+turned c = turn (c .before .before .before .loop .rest) (c .before .before .is-empty .result) (c .lowest .result) (c .before .before .before .loop .inv .0)
+    (c .before .before .is-empty .ensures) (c .before .if1 .taken) (c .lowest .ensures)
 
 -- the taker is a job
-taker-in : (c : tie.After-lowest Inv-loop μ-loop) → c .before .before .before .before .before .before .args .first + c .lowest .result < length (c .before .before .before .before .before .before .args .start .now)
+taker-in : (c : tie.After-lowest Inv-loop μ-loop)
+    → c .before .before .before .before .before .before .args .first + c .lowest .result < length
+    (c .before .before .before .before .before .before .args .start .now)
 taker-in c = c .before .before .before .loop .inv .1 _ (rw (turned c .first) (List·Memᴰ·head refl))
 
 -- what is left to ask, the taker first
 asked : (c : tie.After-lowest Inv-loop μ-loop) → let a = c .before .before .before .before .before .before .args in let i = c .lowest .result in
     wordKept (a .start .now) (a .board .now) (a .giver) (a .first) (c .before .before .before .loop .rest)
-    ≡ (lateEnough (a .start .now) (a .board .now) (a .giver) (a .first + i) && wordKept (a .start .now) (a .board .now) (a .giver) (a .first) (without (c .before .before .before .loop .rest) i))
+    ≡ (lateEnough (a .start .now) (a .board .now) (a .giver) (a .first + i)
+    && wordKept (a .start .now) (a .board .now) (a .giver) (a .first) (without (c .before .before .before .loop .rest) i))
 asked c = word-first _ _ _ _ _ _ _ (turned c .first)
 
 loop-holds : tie.Need-loop-holds Inv-loop μ-loop
@@ -61,7 +65,8 @@ late-enough-requires c κs =
 
 returns : tie.Need-returns Inv-loop μ-loop
 returns c =
-    and-first-no _ (asked (c .before .before)) (sym (c .before .late-enough .ensures) ∙ not-true _ (c .if2 .taken)) ∙ c .before .before .before .before .before .loop .inv .2
+    and-first-no _ (asked (c .before .before)) (sym (c .before .late-enough .ensures) ∙ not-true _ (c .if2 .taken))
+    ∙ c .before .before .before .before .before .loop .inv .2
 
 rest-requires : tie.Need-rest-requires Inv-loop μ-loop
 rest-requires c κs =

@@ -28,15 +28,20 @@ value-at-requires c κs =
 
 returns-3 : tie.Need-returns-3
 returns-3 c =
-    other-size _ (sym (c .before .before .before .before .before .is-whole .ensures) ∙ not-false _ (c .before .before .before .before .if1 .left)) (c .before .before .if2 .left) _ (c .before .value-at .ensures) (c .if3 .taken)
+    other-size _ (sym (c .before .before .before .before .before .is-whole .ensures) ∙ not-false _ (c .before .before .before .before .if1 .left))
+    (c .before .before .if2 .left) _ (c .before .value-at .ensures) (c .if3 .taken)
 
 shared-slice-read-result : tie.Need-shared-slice-read-result
 shared-slice-read-result c =
-    edition-in _ (sym (c .before .before .before .before .before .before .is-whole .ensures) ∙ not-false _ (c .before .before .before .before .before .if1 .left)) (c .before .before .before .if2 .left) _ (c .before .before .value-at .ensures) (c .before .if3 .left)
+    edition-in _ (sym (c .before .before .before .before .before .before .is-whole .ensures)
+    ∙ not-false _ (c .before .before .before .before .before .if1 .left)) (c .before .before .before .if2 .left) _ (c .before .before .value-at .ensures)
+    (c .before .if3 .left)
 
 returns-4 : tie.Need-returns-4
 returns-4 c =
-    edition-by _ (sym (c .before .before .before .before .before .before .is-whole .ensures) ∙ not-false _ (c .before .before .before .before .before .if1 .left)) (c .before .before .before .if2 .left) _ (c .before .before .value-at .ensures) (c .before .if3 .left)
+    edition-by _ (sym (c .before .before .before .before .before .before .is-whole .ensures)
+    ∙ not-false _ (c .before .before .before .before .before .if1 .left)) (c .before .before .before .if2 .left) _ (c .before .before .value-at .ensures)
+    (c .before .if3 .left)
 
 pub head-ok-spec : {M : Type 1} → statement M
 head-ok-spec =

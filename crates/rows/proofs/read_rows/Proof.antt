@@ -23,7 +23,9 @@ abbrev μ-loop : tie.MeasureT-loop
 μ-loop table offset₀ start₀ board₀ count₀ at₀ offset start board count at =
     length table - at
 
-found : (c : tie.After-known-told Inv-loop μ-loop) → rowAnswer (c .before .before .before .before .before .before .before .before .before .before .args .table .now) (c .before .before .before .before .before .before .loop .at) ≡ Row (c .before .end .given .0 .0)
+found : (c : tie.After-known-told Inv-loop μ-loop)
+    → rowAnswer (c .before .before .before .before .before .before .before .before .before .before .args .table .now)
+    (c .before .before .before .before .before .before .loop .at) ≡ Row (c .before .end .given .0 .0)
 found c = sym (c .before .before .before .row-at .ensures) ∙ c .before .end .given .1
 
 head-ok-requires : tie.Need-head-ok-requires Inv-loop μ-loop
@@ -48,7 +50,8 @@ refused-requires-2 c κs =
 
 returns-2 : tie.Need-returns-2 Inv-loop μ-loop
 returns-2 c =
-    refused-read _ _ _ _ _ (c .refused2 .ensures) (one-too-many _ _ _ _ _ _ (c .before .before .before .loop .inv) (c .before .before .loop-test .taken) (c .before .if2 .taken))
+    refused-read _ _ _ _ _ (c .refused2 .ensures)
+    (one-too-many _ _ _ _ _ _ (c .before .before .before .loop .inv) (c .before .before .loop-test .taken) (c .before .if2 .taken))
 
 row-at-requires : tie.Need-row-at-requires Inv-loop μ-loop
 row-at-requires c κs =
@@ -68,7 +71,9 @@ refused-requires-3 c κs =
 
 returns-3 : tie.Need-returns-3 Inv-loop μ-loop
 returns-3 c =
-    refused-read _ _ _ _ _ (c .refused3 .ensures) (refuses _ _ _ _ _ _ (c .before .before .before .before .before .before .loop .inv) (c .before .before .before .before .before .loop-test .taken) (sym (c .before .before .before .row-at .ensures) ∙ c .before .enum-told .given .1))
+    refused-read _ _ _ _ _ (c .refused3 .ensures)
+    (refuses _ _ _ _ _ _ (c .before .before .before .before .before .before .loop .inv) (c .before .before .before .before .before .loop-test .taken)
+    (sym (c .before .before .before .row-at .ensures) ∙ c .before .enum-told .given .1))
 
 -- the row that is found lies in the table, and is one of at most 400
 lies : (c : tie.After-known-told Inv-loop μ-loop) →
@@ -125,11 +130,14 @@ loop-less c =
 
 loop-again : tie.Need-loop-again Inv-loop μ-loop
 loop-again c =
-    row-read _ _ _ _ _ _ (c .before .before .before .before .before .before .before .before .loop .inv) (c .before .before .before .before .before .before .before .loop-test .taken) _ (found (c .before .before)) (c .before .before .before .before .before .before .if2 .left)
+    row-read _ _ _ _ _ _ (c .before .before .before .before .before .before .before .before .loop .inv)
+    (c .before .before .before .before .before .before .before .loop-test .taken) _ (found (c .before .before))
+    (c .before .before .before .before .before .before .if2 .left)
 
 shared-slice-read-wide : tie.Need-shared-slice-read-wide Inv-loop μ-loop
 shared-slice-read-wide c =
-    let h = head-long _ (T-true _ .1 (sym (c .before .before .before .before .head-ok .ensures) ∙ not-false _ (c .before .before .before .if1 .left))) in search needs
+    let h = head-long _ (T-true _ .1 (sym (c .before .before .before .before .head-ok .ensures) ∙ not-false _ (c .before .before .before .if1 .left))) in
+    search needs
 
 wide-requires : tie.Need-wide-requires Inv-loop μ-loop
 wide-requires c κs =
@@ -137,7 +145,8 @@ wide-requires c κs =
 
 shared-slice-read-wide-2 : tie.Need-shared-slice-read-wide-2 Inv-loop μ-loop
 shared-slice-read-wide-2 c =
-    let h = head-long _ (T-true _ .1 (sym (c .before .before .before .before .before .before .head-ok .ensures) ∙ not-false _ (c .before .before .before .before .before .if1 .left))) in search needs
+    let h = head-long _ (T-true _ .1 (sym (c .before .before .before .before .before .before .head-ok .ensures)
+    ∙ not-false _ (c .before .before .before .before .before .if1 .left))) in search needs
 
 wide-requires-2 : tie.Need-wide-requires-2 Inv-loop μ-loop
 wide-requires-2 c κs =
@@ -145,7 +154,9 @@ wide-requires-2 c κs =
 
 returns-4 : tie.Need-returns-4 Inv-loop μ-loop
 returns-4 c =
-    table-read _ (T-true _ .1 (sym (c .before .before .before .before .before .before .before .head-ok .ensures) ∙ not-false _ (c .before .before .before .before .before .before .if1 .left))) _ _ _ _ _ (c .before .before .before .before .before .loop .inv) (c .before .before .before .before .loop-test .left) _ _ (c .before .before .wide .ensures) (c .wide2 .ensures)
+    table-read _ (T-true _ .1 (sym (c .before .before .before .before .before .before .before .head-ok .ensures)
+    ∙ not-false _ (c .before .before .before .before .before .before .if1 .left))) _ _ _ _ _ (c .before .before .before .before .before .loop .inv)
+    (c .before .before .before .before .loop-test .left) _ _ (c .before .before .wide .ensures) (c .wide2 .ensures)
 
 pub read-rows-spec : {M : Type 1} → statement M
 read-rows-spec =

@@ -51,15 +51,23 @@ returns-5 c =
 
 add-t10 : tie.Need-add-t10
 add-t10 c =
-    let h = row-ends _ _ _ (c .before .before .before .before .before .value-at .ensures) (sym (c .before .before .before .before .before .before .before .before .before .is-whole .ensures) ∙ not-false _ (c .before .before .before .before .before .before .before .before .if1 .left)) in search needs
+    let h = row-ends _ _ _ (c .before .before .before .before .before .value-at .ensures)
+    (sym (c .before .before .before .before .before .before .before .before .before .is-whole .ensures)
+    ∙ not-false _ (c .before .before .before .before .before .before .before .before .if1 .left)) in search needs
 
 add-t13 : tie.Need-add-t13
 add-t13 c =
-    let h = row-ends _ _ _ (c .before .before .before .before .before .value-at .ensures) (sym (c .before .before .before .before .before .before .before .before .before .is-whole .ensures) ∙ not-false _ (c .before .before .before .before .before .before .before .before .if1 .left)) in search needs
+    let h = row-ends _ _ _ (c .before .before .before .before .before .value-at .ensures)
+    (sym (c .before .before .before .before .before .before .before .before .before .is-whole .ensures)
+    ∙ not-false _ (c .before .before .before .before .before .before .before .before .if1 .left)) in search needs
 
 returns-6 : tie.Need-returns-6
 returns-6 c =
-    row-found _ _ _ (c .before .before .before .before .before .value-at .ensures) (sym (c .before .before .before .before .before .before .before .before .before .is-whole .ensures) ∙ not-false _ (c .before .before .before .before .before .before .before .before .if1 .left)) (c .before .before .before .before .before .before .if2 .left) (c .before .before .before .before .if3 .left) (c .before .before .before .if4 .left) (sym (c .before .name-ok .ensures) ∙ not-false _ (c .if5 .left))
+    row-found _ _ _ (c .before .before .before .before .before .value-at .ensures)
+    (sym (c .before .before .before .before .before .before .before .before .before .is-whole .ensures)
+    ∙ not-false _ (c .before .before .before .before .before .before .before .before .if1 .left))
+    (c .before .before .before .before .before .before .if2 .left) (c .before .before .before .before .if3 .left) (c .before .before .before .if4 .left)
+    (sym (c .before .name-ok .ensures) ∙ not-false _ (c .if5 .left))
 
 pub row-at-spec : {M : Type 1} → statement M
 row-at-spec =

@@ -13,7 +13,8 @@ use Rattle.layout.specs.Layout.{heldAt}
 use Rattle.places.specs.Assign.{Lowest, lowest-only}
 use Rattle.places.specs.Windows.{Windows}
 use Rattle.seats.specs.Bytes.{everyPlace, freeIn, none-free, some-free}
-use Rattle.seats.specs.Enter.{Midway, Coming, coming, coming-in, coming-less, coming-lowest, coming-full, coming-skip, coming-seat}
+use Rattle.seats.specs.Enter.{leftBehind, Midway, NextJob, nextJob, next-job-in, next-job-less, next-job-lowest, next-job-full, next-job-skip}
+use Rattle.seats.specs.Enter.{next-job-seat}
 use Rattle.seats.specs.Order.{placeOf}
 use Rattle.seats.specs.Slots.{Enters, mid-start, mid-end}
 use Rattle.seats.proofs.enter.Statement.{statement}
@@ -24,7 +25,7 @@ Inv-loop rows jobs release tail limit next first slot places₀ givers₀ tables
     → Enters W rows release tail next jobs limit first slot tables₀ places₀ givers₀ → Midway W next slot number tables places givers
 
 abbrev μ-loop : tie.MeasureT-loop
-μ-loop rows jobs release tail limit next first slot places₀ givers₀ tables₀ number₀ places givers tables number = (401 - number) % 401
+μ-loop rows jobs release tail limit next first slot places₀ givers₀ tables₀ number₀ places givers tables number = leftBehind number
 
 -- ---- the ways back: to the turn, to the deadline of its job, to the places that the slot leaves
 
@@ -55,9 +56,9 @@ Asks c W = let a = c .before .before .before .before .args in Enters W (a .rows 
 
 -- the job comes next, for all windows that the function is called for ..
 comes : (c : tie.In-loop Inv-loop μ-loop) (W : Windows) → Asks c W
-    → Coming W (c .before .before .before .before .args .next .now) (c .before .before .before .before .args .slot) (job c) (c .before .loop .tables)
+    → NextJob W (c .before .before .before .before .args .next .now) (c .before .before .before .before .args .slot) (job c) (c .before .loop .tables)
     (c .before .loop .places) (c .before .loop .givers)
-comes c W E = coming (c .before .loop .inv W E) (c .loop-test .taken)
+comes c W E = nextJob (c .before .loop .inv W E) (c .loop-test .taken)
 
 -- .. and so for some
 some : (c : tie.In-loop Inv-loop μ-loop) → (W : Windows) × Asks c W
@@ -65,7 +66,7 @@ some c = c .before .before .before .before .pre
 
 -- the job is one of the jobs, and the slot one of the slots
 in-jobs : (c : tie.In-loop Inv-loop μ-loop) (W : Windows) → Asks c W → job c < c .before .before .before .before .args .jobs
-in-jobs c W E = omega (arith, coming-in (comes c W E), E .given .count)
+in-jobs c W E = omega (arith, next-job-in (comes c W E), E .given .count)
 
 in-array : (c : tie.In-loop Inv-loop μ-loop) → job c < 400
 in-array c = let p = some c in omega (arith, in-jobs c (p .0) (p .1), p .1 .given .jobs-fit)
@@ -74,12 +75,12 @@ slot-fits : (c : tie.In-loop Inv-loop μ-loop) → c .before .before .before .be
 slot-fits c = let p = some c in omega (arith, p .1 .below, p .1 .given .limit-fits)
 
 -- the numbers rise along the links
-less : (c : tie.In-loop Inv-loop μ-loop) (n : ℕ) → n ≡ at (c .before .before .before .before .args .next .now) (job c) → (401 - n) % 401 <
-    (401 - c .before .loop .number) % 401
+less : (c : tie.In-loop Inv-loop μ-loop) (n : ℕ) → n ≡ at (c .before .before .before .before .args .next .now) (job c)
+    → leftBehind n < leftBehind (c .before .loop .number)
 less c n e =
     let p = some c in
     let f : job c + 1 ≡ c .before .loop .number = (let t = c .loop-test .taken in omega arith) in
-    rw e (rw f at (coming-less (comes c (p .0) (p .1)) (omega (arith, p .1 .given .count, p .1 .given .jobs-fit))))
+    rw e (rw f at (next-job-less (comes c (p .0) (p .1)) (omega (arith, p .1 .given .count, p .1 .given .jobs-fit))))
 
 -- its deadline, which is behind the slot where it takes a place
 last-is : (c : tie.After-deadline Inv-loop μ-loop) (W : Windows) → Asks (turn-of c) W → c .deadline .result ≡ W .d (job (turn-of c))
@@ -105,7 +106,7 @@ place-is : (c : tie.After-lowest Inv-loop μ-loop) (W : Windows) → Asks (turn-
     → c .lowest .result ≡ placeOf W (job (turn-of (deadline-of (free-of c))))
 place-is c W E =
     let t = turn-of (deadline-of (free-of c)) in
-    lowest-only (held t) (c .lowest .result) (placeOf W (job t)) (chosen c .0) (coming-lowest (comes t W E) (E .enters))
+    lowest-only (held t) (c .lowest .result) (placeOf W (job t)) (chosen c .0) (next-job-lowest (comes t W E) (E .enters))
 
 -- ---- the needs
 
@@ -156,7 +157,7 @@ returns c =
     let e : isEmpty (freeIn (held t)) ≡ true = ap isEmpty (sym (free-is free)) ∙ sym (c .before .is-empty .ensures) ∙ c .if2 .taken in
     λ W E. record {
       yes-all = λ f. absurd (false≢true f);
-      none = λ _. coming-full (comes t W E) (E .enters) (in-window free W E) (none-free (held t) e);
+      none = λ _. next-job-full (comes t W E) (E .enters) (in-window free W E) (none-free (held t) e);
     }
 
 lowest-requires : tie.Need-lowest-requires Inv-loop μ-loop
@@ -211,7 +212,7 @@ loop-again c =
     let d = deadline-of free in
     let t = turn-of d in
     λ W E. rw (d .before .before .index2 .ensures, c .before .before .seat .ensures .0, c .give-row .ensures)
-    (coming-seat (comes t W E) (E .given .leads) (E .given) (c .before .before .before .before .before .lowest .result) (d .deadline .result)
+    (next-job-seat (comes t W E) (E .given .leads) (E .given) (c .before .before .before .before .before .lowest .result) (d .deadline .result)
     (at (t .before .loop .givers) (job t)) (E .enters) (E .below)
     (place-is (c .before .before .before .before .before) W E) (chosen (c .before .before .before .before .before) .1) (last-is d W E)
     (in-window free W E) refl (c .before .before .seat .ensures .1))
@@ -224,7 +225,7 @@ loop-less-2 c =
 loop-again-2 : tie.Need-loop-again-2 Inv-loop μ-loop
 loop-again-2 c =
     let d = c .before in
-    λ W E. rw (d .before .before .index2 .ensures) (coming-skip (comes (turn-of d) W E) (E .given .leads) (omega (arith, c .if1 .left, last-is d W E)))
+    λ W E. rw (d .before .before .index2 .ensures) (next-job-skip (comes (turn-of d) W E) (E .given .leads) (omega (arith, c .if1 .left, last-is d W E)))
 
 returns-2 : tie.Need-returns-2 Inv-loop μ-loop
 returns-2 c =

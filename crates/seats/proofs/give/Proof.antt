@@ -19,13 +19,13 @@ after : (c : tie.After-struct-known) → c .before .with .result ≡ with
     (setAt (c .before .before .before .before .before .args .givers .now) (c .before .before .before .before .before .args .taker))
     (c .before .before .before .before .before .args .place)
 after c = c .before .with .ensures ∙ ap (λ (x : ℕ). with (record { bits = x }) (c .before .before .before .before .before .args .place))
-    (c .before .before .byte .ensures .0)
+    (c .before .before .of-byte .ensures .0)
 
-element-copy-out-byte : tie.Need-element-copy-out-byte
-element-copy-out-byte c = search needs
+element-copy-out-of-byte : tie.Need-element-copy-out-of-byte
+element-copy-out-of-byte c = search needs
 
-byte-requires : tie.Need-byte-requires
-byte-requires c κs = search needs
+of-byte-requires : tie.Need-of-byte-requires
+of-byte-requires c κs = search needs
 
 with-requires : tie.Need-with-requires
 with-requires c κs = search needs
@@ -33,7 +33,7 @@ with-requires c κs = search needs
 cast-givers : tie.Need-cast-givers
 cast-givers c =
     let e = ap (λ (s : Set). s .bits) (after c) in
-    let b = c .before .before .byte .ensures in
+    let b = c .before .before .of-byte .ensures in
     omega (
       arith,
       with-lt 8 (setAt (c .before .before .before .before .before .args .givers .now) (c .before .before .before .before .before .args .taker))
@@ -62,8 +62,8 @@ pub give-spec : {M : Type 1} → statement M
 give-spec =
     tie.close
     (tie.spec
-    element-copy-out-byte
-    byte-requires
+    element-copy-out-of-byte
+    of-byte-requires
     with-requires
     cast-givers
     element-write-givers

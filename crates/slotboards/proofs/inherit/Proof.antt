@@ -12,7 +12,8 @@ use Rattle.slotboards.specs.Placing.{filling, takes, giverAt}
 use Rattle.slotboards.proofs.inherit.Statement.{statement}
 use Rattle.slotboards.proofs.inherit.Tie as tie
 
-some-near : (c : tie.Else1) → let a = c .before .before .before .before .before .args in isEmpty (nearAt (tablesIn (a .tables .now)) (a .slot) (a .last) (a .p)) ≡ false
+some-near : (c : tie.Else1) → let a = c .before .before .before .before .before .args in isEmpty (nearAt (tablesIn (a .tables .now)) (a .slot) (a .last) (a .p))
+    ≡ false
 some-near c = ap isEmpty (sym (c .before .before .near-at .ensures)) ∙ sym (c .before .is-empty .ensures) ∙ c .if1 .left
 
 giver : (c : tie.Else1) → let a = c .before .before .before .before .before .args in
@@ -77,7 +78,8 @@ unfolding takes giverAt
 returns-2 c =
     let a = c .before .before .before .before .before .before .before .before .before .before .before .args in
     let A = tablesIn (a .tables .now) in
-    let w = inherit-some A (a .slot) (a .last) (a .p) (filling (a .z .free) (a .boards .now)) (a .z .others) (some-near (c .before .before .before .before .before .before)) in
+    let w = inherit-some A (a .slot) (a .last) (a .p) (filling (a .z .free) (a .boards .now)) (a .z .others)
+    (some-near (c .before .before .before .before .before .before)) in
     let e = c .before .before .before .before .job-at .ensures in
     let f = c .before .before .before .before .before .lowest .ensures in
     let g = c .before .before .before .before .before .before .before .before .near-at .ensures in

@@ -23,7 +23,8 @@ abbrev μ-loop : tie.MeasureT-loop
 turned : (c : tie.After-lowest Inv-loop μ-loop) → Turn (c .before .before .before .loop .rest) (c .lowest .result)
 turned c =
     let l = c .before .before .before .loop in
-    turn (l .rest) (c .before .before .is-empty .result) (c .lowest .result) (l .inv .0) (c .before .before .is-empty .ensures) (c .before .if1 .taken) (c .lowest .ensures)
+    turn (l .rest) (c .before .before .is-empty .result) (c .lowest .result) (l .inv .0) (c .before .before .is-empty .ensures) (c .before .if1 .taken)
+    (c .lowest .ensures)
 
 loop-holds : tie.Need-loop-holds Inv-loop μ-loop
 loop-holds c =

@@ -14,7 +14,8 @@ Inv-loop starts places jobs path₀ job₀ path job = (job ≤ jobs) × (path �
 abbrev μ-loop : tie.MeasureT-loop
 μ-loop starts places jobs path₀ job₀ path job = jobs - job
 
-in-path : (c : tie.In-loop Inv-loop μ-loop) → let a = c .before .before .args in let i = c .before .loop .job in (at (a .starts .now) i < 64) × (at (a .places .now) i < 8)
+in-path : (c : tie.In-loop Inv-loop μ-loop) → let a = c .before .before .args in let i = c .before .loop .job in (at (a .starts .now) i < 64)
+    × (at (a .places .now) i < 8)
 in-path c = c .before .before .pre .1 (c .before .loop .job) (c .loop-test .taken)
 
 loop-holds : tie.Need-loop-holds Inv-loop μ-loop
@@ -49,7 +50,8 @@ cast-path : tie.Need-cast-path Inv-loop μ-loop
 cast-path c =
     let p = c .before .before .before .before .before .before .before .before .before .before in
     let l = c .before .before .before .before .before .before .before .before .before .loop in
-    let w = more-byte (p .args .starts .now) (p .args .places .now) (p .args .jobs) (l .job) (p .pre .1) (c .before .before .before .before .before .before .before .before .loop-test .taken) in
+    let w = more-byte (p .args .starts .now) (p .args .places .now) (p .args .jobs) (l .job) (p .pre .1)
+    (c .before .before .before .before .before .before .before .before .loop-test .taken) in
     let e = c .before .before .before .before .jobs-of .ensures in
     let f = c .before .before .before .before .before .before .wide .ensures in
     let q : c .before .with .result .bits < 256 = rw (c .before .with .ensures, c .before .before .wide2 .ensures, e, f, l .inv .1) w in

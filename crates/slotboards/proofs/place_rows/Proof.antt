@@ -1,4 +1,5 @@
--- `slotboards::place_rows` meets its contract: a walk of its MIR, by hand. The borrow of the row is opened once, before the first loop, and closed once, after the second.
+-- `slotboards::place_rows` meets its contract: a walk of its MIR, by hand. The borrow of the row is opened once, before the first loop, and closed once,
+-- after the second.
 -- Assumes nothing.
 mod Callees
 mod Frame
@@ -72,32 +73,65 @@ module _ {M : Type 1} (𝓤 : URA M) (H : Heap 𝓤) (A : Atoms 𝓤) (W : Given
 
   walk : (𝓣 : Tables 𝓤 H) → Triple 𝓤 (𝓣 .C #slotboards·blank-columns) (Blank 𝓤 H A mem run) → Triple 𝓤 (𝓣 .C #slotboards·with-start) (WithStart 𝓤 H A mem run)
       → Triple 𝓤 (𝓣 .C #slotboards·place-columns) (Place 𝓤 H A mem run) → Triple 𝓤 (𝓣 .C #slotboards·record-of) (RecordOf 𝓤 H A mem run)
-      → ent 𝓤 (onEntry 𝓤 H A pr.signature (κ, (κ′, (κ″, tt))) (q, (q′, (q″, tt))) (a p) (vals p)) (WpFn 𝓤 H (𝓣 .C) (𝓣 .Λ) code.function (s p ∷ pg p ∷ pp p ∷ vint w64 slots ∷ []) (Post 𝓤 H A W mem run p))
+      → ent 𝓤 (onEntry 𝓤 H A pr.signature (κ, (κ′, (κ″, tt))) (q, (q′, (q″, tt))) (a p) (vals p))
+      (WpFn 𝓤 H (𝓣 .C) (𝓣 .Λ) code.function (s p ∷ pg p ∷ pp p ∷ vint w64 slots ∷ []) (Post 𝓤 H A W mem run p))
   walk 𝓣 known-blank known-with known-place known-record =
-      qed W ((‵ (flft κ q) ⊛ (‵ (flft κ′ q′) ⊛ (‵ (flft κ″ q″) ⊛ ‵ ftrue))) ∷ ‵ (owns (MutSlice (named 0) κ T.the-row ∷ ShrRef (named 1) κ′ Words ∷ ShrRef (named 2) κ″ Bytes ∷ usize ∷ []) (a p) (vals p)) ∷ []) ∵ enter ! (𝓣 .C) (𝓣 .Λ) code.function (s p ∷ pg p ∷ pp p ∷ vint w64 slots ∷ []) _ $
-      alloc1 ! (λ l₀. alloc1 ! (λ l₁. alloc1 ! (λ l₂. alloc1 ! (λ l₃. alloc1 ! (λ l₄. alloc1 ! (λ l₅. alloc1 ! (λ l₆. alloc1 ! (λ l₇. alloc1 ! (λ l₈. alloc1 ! (λ l₉. alloc1 ! (λ l₁₀. alloc1 ! (λ l₁₁. alloc1 ! (λ l₁₂. alloc1 ! (λ l₁₃. alloc1 ! (λ l₁₄. alloc0 ! $ params1 ! $
-      pass1 ! (init ! 26 refl (tt, (tt, (record { fits = room .0 }, tt)))) $ pass1 ! (init ! 24 refl (tt, tt)) $ pass1 ! (init ! 22 refl (tt, tt)) $ pass1 ! (init ! 20 refl (tt, record { fits = slots-fits })) $ pass0 ! $
+      qed W ((‵ (flft κ q) ⊛ (‵ (flft κ′ q′) ⊛ (‵ (flft κ″ q″) ⊛ ‵ ftrue)))
+      ∷ ‵ (owns (MutSlice (named 0) κ T.the-row ∷ ShrRef (named 1) κ′ Words ∷ ShrRef (named 2) κ″ Bytes ∷ usize ∷ []) (a p) (vals p))
+      ∷ []) ∵ enter ! (𝓣 .C) (𝓣 .Λ) code.function (s p ∷ pg p ∷ pp p ∷ vint w64 slots ∷ []) _ $
+      alloc1 ! (λ l₀. alloc1 ! (λ l₁. alloc1
+      ! (λ l₂. alloc1 ! (λ l₃. alloc1
+      ! (λ l₄. alloc1 ! (λ l₅. alloc1
+      ! (λ l₆. alloc1 ! (λ l₇. alloc1
+      ! (λ l₈. alloc1 ! (λ l₉. alloc1 ! (λ l₁₀. alloc1 ! (λ l₁₁. alloc1 ! (λ l₁₂. alloc1 ! (λ l₁₃. alloc1 ! (λ l₁₄. alloc0 ! $ params1 ! $
+      pass1 ! (init ! 26 refl (tt, (tt, (record { fits = room .0 }, tt)))) $ pass1 ! (init ! 24 refl (tt, tt)) $ pass1 ! (init ! 22 refl (tt, tt)) $
+      pass1 ! (init ! 20 refl (tt, record { fits = slots-fits })) $ pass0 ! $
       nothing ! $ use1 W (raw (Blank 𝓤 H A mem run .pre (to-blank 𝓤 H A W mem run))) (goes-blank 𝓤 H A W mem run) $
       calls-at ! (fmOf 𝓤 H (W .laws) 𝓣) (Blank 𝓤 H A mem run) known-blank (to-blank 𝓤 H A W mem run) (no-more !) (λ w.
-      use1 W (later (some (λ (t : Columns). (‵ ftrue ⊛ ‵ (U.the-row .own t (w ∷ []))) ⊛ raw (ensured 𝓤 H A blank.ended (blank.clauses 𝓤 H A mem run) tt tt tt t)))) (id⊢ 𝓤 _) $ await ! tt $ pick ! (λ t.
+      use1 W (later (some (λ (t : Columns). (‵ ftrue ⊛ ‵ (U.the-row .own t (w ∷ []))) ⊛ raw
+      (ensured 𝓤 H A blank.ended (blank.clauses 𝓤 H A mem run) tt tt tt t)))) (id⊢ 𝓤 _) $ await ! tt $ pick ! (λ t.
       split ! $ move ! (1 ∷ []) $ use1 W (raw (fact 𝓤 (t ≡ blankColumns))) (got-blank 𝓤 H A W mem run t) $ heard ! (t ≡ blankColumns) (λ e. split ! $ drop ! $
       peeks ! U.the-row (Is U.the-row) (shows 𝓤 H A U.the-row) t (w ∷ []) (λ ist.
       land ! (from ! (stop !)) (init ! 19 refl (LL.lawful U.the-type U′.the-laws 𝓤 H A W .typed t _ ist .0)) $ drop ! $
       assigns ! (of-opd ! (lit ! tt)) (from ! (stop !)) (init ! 16 refl (tt, record { fits = lit< tt })) $
       -- [_14; …; _0; …; the tokens; what rows, tables, places and slots own]
-      move ! (31 ∷ []) $ fsplit ! $ fsplit ! $ move ! (1 ∷ []) $ fsplit ! $ move ! (3 ∷ []) $ fsplit ! $ move ! (1 ∷ []) $ fsplit ! $ move ! (36 ∷ []) $ split ! $ move ! (5 ∷ 6 ∷ 0 ∷ []) $
+      move ! (31 ∷ []) $ fsplit ! $ fsplit ! $ move ! (1 ∷ []) $ fsplit ! $ move ! (3 ∷ []) $ fsplit ! $ move ! (1 ∷ []) $ fsplit ! $ move ! (36 ∷ []) $
+      split ! $ move ! (5 ∷ 6 ∷ 0 ∷ []) $
       -- [the row's borrow and token; the other tokens; what places, slots and tables own; _14; …]
       opens-slice ! tt T.the-row ys b o $
-      keep ! (0 ∷ 9 ∷ 10 ∷ 11 ∷ 12 ∷ 13 ∷ 14 ∷ 15 ∷ 16 ∷ 17 ∷ 18 ∷ 19 ∷ 20 ∷ 21 ∷ 22 ∷ 23 ∷ 24 ∷ 25 ∷ 26 ∷ 27 ∷ 28 ∷ 29 ∷ 30 ∷ 31 ∷ 32 ∷ 33 ∷ 34 ∷ 35 ∷ 36 ∷ 37 ∷ 38 ∷ 1 ∷ 2 ∷ 3 ∷ 4 ∷ 7 ∷ 5 ∷ []) $
-      by ! (copies-out 𝓤 H A W mem run p 𝓣 known-with known-place known-record (record { l₀ = l₀; l₁ = l₁; l₂ = l₂; l₃ = l₃; l₄ = l₄; l₅ = l₅; l₆ = l₆; l₇ = l₇; l₈ = l₈; l₉ = l₉; l₁₀ = l₁₀; l₁₁ = l₁₁; l₁₂ = l₁₂; l₁₃ = l₁₃; l₁₄ = l₁₄ }) t w ist e))))))))))))))))))))
+      keep ! (0 ∷ 9 ∷ 10 ∷ 11 ∷ 12 ∷ 13 ∷ 14 ∷ 15 ∷ 16 ∷ 17 ∷ 18 ∷ 19 ∷ 20 ∷ 21 ∷ 22 ∷ 23 ∷ 24 ∷ 25 ∷ 26 ∷ 27 ∷ 28 ∷ 29 ∷ 30 ∷ 31 ∷ 32 ∷ 33 ∷ 34 ∷ 35 ∷ 36 ∷ 37
+      ∷ 38 ∷ 1 ∷ 2 ∷ 3 ∷ 4 ∷ 7 ∷ 5 ∷ []) $
+      by ! (copies-out 𝓤 H A W mem run p 𝓣 known-with known-place known-record
+      (record {
+        l₀ = l₀;
+        l₁ = l₁;
+        l₂ = l₂;
+        l₃ = l₃;
+        l₄ = l₄;
+        l₅ = l₅;
+        l₆ = l₆;
+        l₇ = l₇;
+        l₈ = l₈;
+        l₉ = l₉;
+        l₁₀ = l₁₀;
+        l₁₁ = l₁₁;
+        l₁₂ = l₁₂;
+        l₁₃ = l₁₃;
+        l₁₄ = l₁₄;
+      }) t w ist e))))))))))))))))))))
 
 module _ {M : Type 1} (𝓤 : URA M) (H : Heap 𝓤) (A : Atoms 𝓤) (W : Given 𝓤 H A) (mem : Memory → SProp 𝓤) (run : Routine → Fun 𝓤) (𝓣 : Tables 𝓤 H)
-    (known-blank : Triple 𝓤 (𝓣 .C #slotboards·blank-columns) (Blank 𝓤 H A mem run)) (known-with : Triple 𝓤 (𝓣 .C #slotboards·with-start) (WithStart 𝓤 H A mem run))
-    (known-place : Triple 𝓤 (𝓣 .C #slotboards·place-columns) (Place 𝓤 H A mem run)) (known-record : Triple 𝓤 (𝓣 .C #slotboards·record-of) (RecordOf 𝓤 H A mem run)) where
+    (known-blank : Triple 𝓤 (𝓣 .C #slotboards·blank-columns) (Blank 𝓤 H A mem run))
+    (known-with : Triple 𝓤 (𝓣 .C #slotboards·with-start) (WithStart 𝓤 H A mem run))
+    (known-place : Triple 𝓤 (𝓣 .C #slotboards·place-columns) (Place 𝓤 H A mem run))
+    (known-record : Triple 𝓤 (𝓣 .C #slotboards·record-of) (RecordOf 𝓤 H A mem run)) where
   pr-walks : Walks 𝓤 H A pr.ended stayed (WpFn 𝓤 H (𝓣 .C) (𝓣 .Λ) code.function) (pr.clauses 𝓤 H A mem run)
   pr-walks = walked 𝓤 H A pr.ended stayed (pr.clauses 𝓤 H A mem run) (WpFn 𝓤 H (𝓣 .C) (𝓣 .Λ) code.function)
       (λ κs. (slice-vals, (ptr-vals, (ptr-vals, (uint-vals w64, tt)))))
-      (λ κs. (mut-slice-tells (named 0) (κs .0) T.the-row, (shr-tells (named 1) (κs .1 .0) Words, (shr-tells (named 2) (κs .1 .1 .0) Bytes, (uint-tells w64, tt)))))
+      (λ κs. (
+        mut-slice-tells (named 0) (κs .0) T.the-row,
+        (shr-tells (named 1) (κs .1 .0) Words, (shr-tells (named 2) (κs .1 .1 .0) Bytes, (uint-tells w64, tt))),
+      ))
       (λ κs qs bounds a g are. needs 𝓤 (RowsSeated (a .0 .now) (a .1 .0 .now) (a .1 .1 .0 .now) (a .1 .1 .1 .0)) _ (λ ok.
       walk 𝓤 H A W mem run (record {
         κ = κs .0;
@@ -135,7 +169,11 @@ place-rows-spec 𝓤 H 𝓜 𝓖 𝓡 =
     entered 𝓤 H (tripleOf 𝓤 H (𝓖 .A) pr.signature (pr.spec 𝓤 H (𝓖 .A) (𝓜 .mem) (𝓡 .run)))
     (tables 𝓤 H 𝓜 𝓡 code.env .C) (tables 𝓤 H 𝓜 𝓡 code.env .Λ) #slotboards·place-rows code.function (code.unfolded 𝓤 H 𝓜 𝓡)
     (pr-meets 𝓤 H (𝓖 .A) (givenOf 𝓤 H 𝓜 𝓖) (𝓜 .mem) (𝓡 .run) (tablesOf 𝓤 H 𝓜 (tables 𝓤 H 𝓜 𝓡 code.env))
-    (cited 𝓤 H (Blank 𝓤 H (𝓖 .A) (𝓜 .mem) (𝓡 .run)) 𝓜 𝓡 code.env #slotboards·blank-columns blank-def.routine code.calls-slotboards·blank-columns (blank-thm.met 𝓤 H 𝓜 𝓖 𝓡))
-    (cited 𝓤 H (WithStart 𝓤 H (𝓖 .A) (𝓜 .mem) (𝓡 .run)) 𝓜 𝓡 code.env #slotboards·with-start with-start-def.routine code.calls-slotboards·with-start (with-start-thm.met 𝓤 H 𝓜 𝓖 𝓡))
-    (cited 𝓤 H (Place 𝓤 H (𝓖 .A) (𝓜 .mem) (𝓡 .run)) 𝓜 𝓡 code.env #slotboards·place-columns place-def.routine code.calls-slotboards·place-columns (place-thm.met 𝓤 H 𝓜 𝓖 𝓡))
-    (cited 𝓤 H (RecordOf 𝓤 H (𝓖 .A) (𝓜 .mem) (𝓡 .run)) 𝓜 𝓡 code.env #slotboards·record-of record-of-def.routine code.calls-slotboards·record-of (record-of-thm.met 𝓤 H 𝓜 𝓖 𝓡)))
+    (cited 𝓤 H (Blank 𝓤 H (𝓖 .A) (𝓜 .mem) (𝓡 .run)) 𝓜 𝓡 code.env #slotboards·blank-columns blank-def.routine code.calls-slotboards·blank-columns
+    (blank-thm.met 𝓤 H 𝓜 𝓖 𝓡))
+    (cited 𝓤 H (WithStart 𝓤 H (𝓖 .A) (𝓜 .mem) (𝓡 .run)) 𝓜 𝓡 code.env #slotboards·with-start with-start-def.routine code.calls-slotboards·with-start
+    (with-start-thm.met 𝓤 H 𝓜 𝓖 𝓡))
+    (cited 𝓤 H (Place 𝓤 H (𝓖 .A) (𝓜 .mem) (𝓡 .run)) 𝓜 𝓡 code.env #slotboards·place-columns place-def.routine code.calls-slotboards·place-columns
+    (place-thm.met 𝓤 H 𝓜 𝓖 𝓡))
+    (cited 𝓤 H (RecordOf 𝓤 H (𝓖 .A) (𝓜 .mem) (𝓡 .run)) 𝓜 𝓡 code.env #slotboards·record-of record-of-def.routine code.calls-slotboards·record-of
+    (record-of-thm.met 𝓤 H 𝓜 𝓖 𝓡)))

@@ -22,7 +22,8 @@ abbrev μ-loop : tie.MeasureT-loop
 μ-loop tables path slots boards₀ last₀ slot₀ boards last slot = slots - slot
 
 -- the plan, the slots given, and that one more slot is to come
-plan : (c : tie.In-loop Inv-loop μ-loop) → Plan (c .before .before .pre .0 .0) (c .before .before .args .tables .now) (c .before .before .args .path .now) (c .before .before .args .slots)
+plan : (c : tie.In-loop Inv-loop μ-loop)
+    → Plan (c .before .before .pre .0 .0) (c .before .before .args .tables .now) (c .before .before .args .path .now) (c .before .before .args .slots)
 plan c = c .before .before .pre .0 .1
 
 few : (c : tie.In-loop Inv-loop μ-loop) → c .before .loop .slot < 64
@@ -59,7 +60,8 @@ take-lowest-requires c κs =
     let e = c .before .inherit-all .ensures in (
       few d,
       rw (e .1, l .inv .2, c .before .before .before .jobs-of .ensures) (others-listable (plan d) (l .slot) (d .loop-test .taken) (before d) (given d)),
-      rw (e .0, e .1, l .inv .2, l .inv .1, c .before .before .before .jobs-of .ensures) (others-fit (plan d) (l .slot) (d .loop-test .taken) (before d) (given d)),
+      rw (e .0, e .1, l .inv .2, l .inv .1, c .before .before .before .jobs-of .ensures)
+          (others-fit (plan d) (l .slot) (d .loop-test .taken) (before d) (given d)),
     )
 
 add-slot : tie.Need-add-slot Inv-loop μ-loop

@@ -51,8 +51,13 @@ same-length c = search needs
 returns : tie.Need-returns
 returns c =
     let p = c .before .before .before .before .before .before .before .before .before .before .before .before .before .pre in
-    let level = c .before .before .before .before .before .before .before .before .before .centimetres .ensures ∙ ap rounded (c .before .before .before .before .before .before .before .before .before .before .word-at .ensures) in
-    (row-size _ _ _ (p .0) _ (c .before .before .copy .ensures .0), row-put _ _ _ (p .0) _ _ _ (c .before .before .before .before .before .before .before .before .before .centimetres .result) _ _ _ (p .1) (p .2) (c .before .before .copy .ensures .0) level (c .before .before .before .before .before .before .before .put-fixed .ensures) refl refl (c .before .before .copy .ensures .1))
+    let level = c .before .before .before .before .before .before .before .before .before .centimetres .ensures
+    ∙ ap rounded (c .before .before .before .before .before .before .before .before .before .before .word-at .ensures) in (
+      row-size _ _ _ (p .0) _ (c .before .before .copy .ensures .0),
+      row-put _ _ _ (p .0) _ _ _ (c .before .before .before .before .before .before .before .before .before .centimetres .result) _ _ _ (p .1) (p .2)
+          (c .before .before .copy .ensures .0) level (c .before .before .before .before .before .before .before .put-fixed .ensures) refl refl
+          (c .before .before .copy .ensures .1),
+    )
 
 pub put-row-spec : {M : Type 1} → statement M
 put-row-spec =

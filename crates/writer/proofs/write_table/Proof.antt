@@ -18,24 +18,39 @@ abbrev μ-loop : tie.MeasureT-loop
 μ-loop file offsets starts boards jobs slots count table₀ at₀ i₀ table at i =
     jobs - i
 
-room : (c : tie.After-board Inv-loop μ-loop) → c .before .before .before .before .before .before .loop .at + 19 ≤ length (c .before .before .before .before .before .before .loop .table)
+room : (c : tie.After-board Inv-loop μ-loop)
+    → c .before .before .before .before .before .before .loop .at + 19 ≤ length (c .before .before .before .before .before .before .loop .table)
 room c =
     let p = c .before .before .before .before .before .before .before .before .before .before .before .before .before .pre in
     let v = c .before .before .before .before .before .before .loop .inv in
-    let k = bytes-so-far _ _ (c .before .before .before .before .before .before .before .before .before .before .before .before .before .args .starts .now) (c .before .before .before .before .before .before .before .before .before .before .before .before .before .args .boards .now) (c .before .before .before .before .before .before .before .before .before .before .before .before .before .args .slots) (c .before .before .before .before .before .before .before .before .before .before .before .before .before .args .count) _ (p .2) (c .before .before .before .before .before .before .loop .i) (v .0) in
-    let h = head-length _ _ (c .before .before .before .before .before .before .before .before .before .before .before .before .before .args .table .now) _ (c .before .before .before .before .before .before .before .before .before .put-head .ensures) (omega arith) in
+    let k = bytes-so-far _ _ (c .before .before .before .before .before .before .before .before .before .before .before .before .before .args .starts .now)
+    (c .before .before .before .before .before .before .before .before .before .before .before .before .before .args .boards .now)
+    (c .before .before .before .before .before .before .before .before .before .before .before .before .before .args .slots)
+    (c .before .before .before .before .before .before .before .before .before .before .before .before .before .args .count) _ (p .2)
+    (c .before .before .before .before .before .before .loop .i) (v .0) in
+    let h = head-length _ _ (c .before .before .before .before .before .before .before .before .before .before .before .before .before .args .table .now) _
+    (c .before .before .before .before .before .before .before .before .before .put-head .ensures) (omega arith) in
     omega (arith, v .3 .size, c .before .before .before .before .before .loop-test .taken)
 
-value-is : (c : tie.After-board Inv-loop μ-loop) → c .before .before .value-at .result .now ≡ value (c .before .before .before .before .before .before .before .before .before .before .before .before .before .args .file .now) (at (c .before .before .before .before .before .before .before .before .before .before .before .before .before .args .offsets .now) (c .before .before .before .before .before .before .loop .i))
-value-is c = c .before .before .value-at .ensures ∙ ap (value (c .before .before .before .before .before .before .before .before .before .before .before .before .before .args .file .now)) (c .before .before .before .index .ensures)
+value-is : (c : tie.After-board Inv-loop μ-loop) → c .before .before .value-at .result .now
+    ≡ value (c .before .before .before .before .before .before .before .before .before .before .before .before .before .args .file .now)
+    (at (c .before .before .before .before .before .before .before .before .before .before .before .before .before .args .offsets .now)
+    (c .before .before .before .before .before .before .loop .i))
+value-is c = c .before .before .value-at .ensures
+    ∙ ap (value (c .before .before .before .before .before .before .before .before .before .before .before .before .before .args .file .now))
+    (c .before .before .before .index .ensures)
 
 put-head-requires : tie.Need-put-head-requires Inv-loop μ-loop
 put-head-requires c κs =
     search needs
 
 loop-holds : tie.Need-loop-holds Inv-loop μ-loop
-loop-holds c =
-    (omega arith, refl, omega arith, head-written _ _ _ _ _ _ (c .before .before .before .before .before .before .args .table .now) _ (c .before .before .put-head .ensures))
+loop-holds c = (
+  omega arith,
+  refl,
+  omega arith,
+  head-written _ _ _ _ _ _ (c .before .before .before .before .before .before .args .table .now) _ (c .before .before .put-head .ensures),
+)
 
 mul-index : tie.Need-mul-index Inv-loop μ-loop
 mul-index c =
@@ -51,7 +66,8 @@ index-requires c κs =
 
 value-at-requires : tie.Need-value-at-requires Inv-loop μ-loop
 value-at-requires c κs =
-    rw (c .index .ensures) (c .before .before .before .before .before .before .before .before .before .before .pre .2 .are-whole _ (c .before .before .loop-test .taken))
+    rw (c .index .ensures) (c .before .before .before .before .before .before .before .before .before .before .pre .2 .are-whole _
+    (c .before .before .loop-test .taken))
 
 element-copy-out-start : tie.Need-element-copy-out-start Inv-loop μ-loop
 element-copy-out-start c =
@@ -86,7 +102,10 @@ add-at c =
     let h = c .before .before .before .before .before .before .before .before .before .loop-test .taken in
     let v = c .before .before .before .before .before .before .before .before .before .before .loop .inv in
     let r = room (c .before .before .before .before) in
-    let n = row-turn _ _ _ _ _ _ (c .before .before .before .before .before .before .before .before .before .before .loop .i) _ _ _ _ _ _ _ (v .3) (value-is (c .before .before .before .before)) (omega arith) (rw (value-is (c .before .before .before .before)) (p .2 .short _ h)) (let l = p .2 .long _ h in rw (value-is (c .before .before .before .before)) (omega arith)) (c .before .before .put-row .ensures .0) refl (c .before .before .put-row .ensures .1) in
+    let n = row-turn _ _ _ _ _ _ (c .before .before .before .before .before .before .before .before .before .before .loop .i) _ _ _ _ _ _ _ (v .3)
+    (value-is (c .before .before .before .before)) (omega arith) (rw (value-is (c .before .before .before .before)) (p .2 .short _ h))
+    (let l = p .2 .long _ h in rw (value-is (c .before .before .before .before)) (omega arith)) (c .before .before .put-row .ensures .0) refl
+    (c .before .before .put-row .ensures .1) in
     let m = n .room in search needs
 
 add-i : tie.Need-add-i Inv-loop μ-loop
@@ -103,18 +122,26 @@ loop-again c =
     let h = c .before .before .before .before .before .before .before .before .before .loop-test .taken in
     let v = c .before .before .before .before .before .before .before .before .before .before .loop .inv in
     let r = room (c .before .before .before .before) in
-    let n = row-turn _ _ _ _ _ _ (c .before .before .before .before .before .before .before .before .before .before .loop .i) _ _ _ _ _ _ _ (v .3) (value-is (c .before .before .before .before)) (omega arith) (rw (value-is (c .before .before .before .before)) (p .2 .short _ h)) (let l = p .2 .long _ h in rw (value-is (c .before .before .before .before)) (omega arith)) (c .before .before .put-row .ensures .0) refl (c .before .before .put-row .ensures .1) in
+    let n = row-turn _ _ _ _ _ _ (c .before .before .before .before .before .before .before .before .before .before .loop .i) _ _ _ _ _ _ _ (v .3)
+    (value-is (c .before .before .before .before)) (omega arith) (rw (value-is (c .before .before .before .before)) (p .2 .short _ h))
+    (let l = p .2 .long _ h in rw (value-is (c .before .before .before .before)) (omega arith)) (c .before .before .put-row .ensures .0) refl
+    (c .before .before .put-row .ensures .1) in
     (omega arith, written-length _ _ _ _ n, omega arith, n)
 
 same-length : tie.Need-same-length Inv-loop μ-loop
 same-length c =
-    c .before .loop .inv .1 ∙ head-length _ _ (c .before .before .before .before .before .before .before .before .args .table .now) _ (c .before .before .before .before .put-head .ensures) (let p = c .before .before .before .before .before .before .before .before .pre in omega arith)
+    c .before .loop .inv .1 ∙ head-length _ _ (c .before .before .before .before .before .before .before .before .args .table .now) _
+    (c .before .before .before .before .put-head .ensures) (let p = c .before .before .before .before .before .before .before .before .pre in omega arith)
 
 returns : tie.Need-returns Inv-loop μ-loop
 returns c =
     let v = c .before .loop .inv in
-    let e : c .before .loop .i ≡ c .before .before .before .before .before .before .before .before .args .jobs = omega (arith, c .loop-test .left) in
-    (rw (← e) (v .3 .size), rw (← e) (all-written _ _ _ _ _ _ (c .before .loop .i) (c .before .before .before .before .before .before .before .before .args .table .now) _ _ _ (c .before .before .before .before .put-head .ensures) (v .2) (v .3)))
+    let e : c .before .loop .i ≡ c .before .before .before .before .before .before .before .before .args .jobs = omega (arith, c .loop-test .left) in (
+      rw (← e) (v .3 .size),
+      rw (← e)
+          (all-written _ _ _ _ _ _ (c .before .loop .i) (c .before .before .before .before .before .before .before .before .args .table .now) _ _ _
+          (c .before .before .before .before .put-head .ensures) (v .2) (v .3)),
+    )
 
 pub write-table-spec : {M : Type 1} → statement M
 write-table-spec =

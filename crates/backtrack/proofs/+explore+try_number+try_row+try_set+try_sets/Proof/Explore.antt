@@ -40,27 +40,33 @@ module _ (t : ℕ) where
   low c = let o = opened c in omega (arith, o .below, o .can .few)
 
   -- the key is one of the bitmap's marks
-  fits : (c : explore-lts.After-key-of (explore-claims t) (explore-at t) explore.Post) → let s = c .before .before .before .before .before in c .key-of .result < 8 * length (s .args .dead .now)
+  fits : (c : explore-lts.After-key-of (explore-claims t) (explore-at t) explore.Post) → let s = c .before .before .before .before .before in
+      c .key-of .result < 8 * length (s .args .dead .now)
   fits c = rw (c .key-of .ensures) (key-fits (opened (c .before)))
 
   -- whether the state is marked
-  marked-is : (c : explore-lts.After-marked (explore-claims t) (explore-at t) explore.Post) → let s = c .before .before .before .before .before .before .before in
+  marked-is : (c : explore-lts.After-marked (explore-claims t) (explore-at t) explore.Post)
+      → let s = c .before .before .before .before .before .before .before in
       isMarked (s .args .dead .now) (state-key s) ≡ c .marked .result
   marked-is c = rw (← (c .before .before .key-of .ensures)) (sym (c .marked .ensures))
 
   -- it is opened
-  opened-is : (c : explore-lts.Else2 (explore-claims t) (explore-at t) explore.Post) → let s = c .before .before .before .before .before .before .before .before in let a = s .args in
+  opened-is : (c : explore-lts.Else2 (explore-claims t) (explore-at t) explore.Post)
+      → let s = c .before .before .before .before .before .before .before .before in let a = s .args in
       exploredIn (words s) (a .slot) (a .done) (a .ran) (a .dead .now)
       ≡ opening (c .before .before .before .key-of .result) (slotTries (words s) (a .slot) (a .done) (a .ran) (a .dead .now))
   opened-is c =
       let s = c .before .before .before .before .before .before .before .before in
-      rw (c .before .before .before .key-of .ensures) (state-open (opened (c .before .before .before .before)) (s .pre .1 .2) (s .args .dead .now) (marked-is (c .before) ∙ c .if2 .left))
+      rw (c .before .before .before .key-of .ensures)
+      (state-open (opened (c .before .before .before .before)) (s .pre .1 .2) (s .args .dead .now) (marked-is (c .before) ∙ c .if2 .left))
 
   -- what is carried over
-  here-is : (c : explore-lts.After-minus (explore-claims t) (explore-at t) explore.Post) → let a = c .before .before .before .before .before .before .before .before .before .before .args in
+  here-is : (c : explore-lts.After-minus (explore-claims t) (explore-at t) explore.Post)
+      → let a = c .before .before .before .before .before .before .before .before .before .before .args in
       c .minus .result ≡ carried (tablesIn (a .tables .now)) (a .slot) (a .done)
   unfolding carried tablesIn
-  here-is c = let a = c .before .before .before .before .before .before .before .before .before .before .args in c .minus .ensures ∙ ap (minus (a .done)) (c .before .set-at .ensures)
+  here-is c = let a = c .before .before .before .before .before .before .before .before .before .before .args in c .minus .ensures
+      ∙ ap (minus (a .done)) (c .before .set-at .ensures)
 
   pub element-copy-out-index : explore-lts.Need-element-copy-out-index (explore-claims t) (explore-at t) explore.Post
   element-copy-out-index c = omega arith
@@ -86,7 +92,11 @@ module _ (t : ℕ) where
 
   pub returns-2 : explore-lts.Need-returns-2 (explore-claims t) (explore-at t) explore.Post
   unfolding written
-  returns-2 c = let s = c .before .before .before .before .before .before .before .before in rw (state-marked (opened (c .before .before .before .before)) (s .pre .1 .2) (s .args .dead .now) (marked-is (c .before) ∙ c .if2 .taken)) (refl, (refl, refl))
+  returns-2 c = let s = c .before .before .before .before .before .before .before .before in
+      rw (state-marked (opened (c .before .before .before .before)) (s .pre .1 .2) (s .args .dead .now) (marked-is (c .before) ∙ c .if2 .taken)) (
+        refl,
+        (refl, refl),
+      )
 
   pub add-set-at : explore-lts.Need-add-set-at (explore-claims t) (explore-at t) explore.Post
   add-set-at c = omega (arith, low (c .before .before .before .before))
@@ -114,7 +124,11 @@ module _ (t : ℕ) where
       rw (opened-is (c .before .before .before .before .before .before .before .before), o) (refl, (q .path-is, q .dead-is))
 
   pub mark-requires : explore-lts.Need-mark-requires (explore-claims t) (explore-at t) explore.Post
-  mark-requires c κs = omega (arith, fits (c .before .before .before .before .before .before .before .before .before .before .before .before), c .before .before .before .before .try-sets .kept .1 .0)
+  mark-requires c κs = omega (
+    arith,
+    fits (c .before .before .before .before .before .before .before .before .before .before .before .before),
+    c .before .before .before .before .try-sets .kept .1 .0,
+  )
 
   pub same-length-3 : explore-lts.Need-same-length-3 (explore-claims t) (explore-at t) explore.Post
   same-length-3 c = c .before .before .mark .kept .0 ∙ c .before .before .before .before .before .before .before .try-sets .kept .1 .0
@@ -125,4 +139,7 @@ module _ (t : ℕ) where
       let q = c .before .before .before .before .before .before .before .try-sets .ensures in
       let o = sym (q .found) ∙ c .before .before .before .before .if3 .left in
       let k = c .before .before .before .before .before .before .before .before .before .before .before .before .before .before .before .key-of .result in
-      rw (opened-is (c .before .before .before .before .before .before .before .before .before .before .before .before), o) (refl, (q .path-is, c .before .before .mark .ensures ∙ ap (λ (d : List ℕ). withMark d k) (q .dead-is)))
+      rw (opened-is (c .before .before .before .before .before .before .before .before .before .before .before .before), o) (
+        refl,
+        (q .path-is, c .before .before .mark .ensures ∙ ap (λ (d : List ℕ). withMark d k) (q .dead-is)),
+      )

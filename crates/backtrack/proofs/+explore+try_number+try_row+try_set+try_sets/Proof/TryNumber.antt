@@ -64,7 +64,8 @@ module _ (t : ℕ) where
   picked c = c .pick .ensures
 
   -- where the code goes on no two share a giver
-  fits : (c : try-number-lts.Joined1 (try-number-claims t) (try-number-at t) try-number.Post) → let s = c .before .before .before .before in fitting (near s) empty (ps s) ≡ true
+  fits : (c : try-number-lts.Joined1 (try-number-claims t) (try-number-at t) try-number.Post) → let s = c .before .before .before .before in
+      fitting (near s) empty (ps s) ≡ true
   fits c =
       let s = c .before .before .before .before in
       picked-fits (near s) (s .args .row .now) (s .args .number) (low s) (takes s .distinct)
@@ -73,13 +74,16 @@ module _ (t : ℕ) where
       (λ w. inl (ap isEmpty (sym (picked (c .before .before))) ∙ sym (c .before .is-empty .ensures) ∙ w .left))
       (c .if1 .came))
 
-  places-are : (c : try-number-lts.After-union (try-number-claims t) (try-number-at t) try-number.Post) → c .union .result ≡ places (c .before .before .before .before .before .before)
+  places-are : (c : try-number-lts.After-union (try-number-claims t) (try-number-at t) try-number.Post) → c .union .result
+      ≡ places (c .before .before .before .before .before .before)
   places-are c =
       let s = c .before .before .before .before .before .before in
       c .union .ensures
-      ∙ ap (union (s .args .c .forced)) (picked (c .before .before .before .before) ∙ picked-places (near s) (s .args .row .now) (s .args .number) (low s) (takes s .distinct) (fits (c .before .before)))
+      ∙ ap (union (s .args .c .forced)) (picked (c .before .before .before .before)
+      ∙ picked-places (near s) (s .args .row .now) (s .args .number) (low s) (takes s .distinct) (fits (c .before .before)))
 
-  has-must : (c : try-number-lts.After-is-subset (try-number-claims t) (try-number-at t) try-number.Post) → let s = c .before .before .before .before .before .before .before in
+  has-must : (c : try-number-lts.After-is-subset (try-number-claims t) (try-number-at t) try-number.Post)
+      → let s = c .before .before .before .before .before .before .before in
       isSubset (must s) (places s) ≡ c .is-subset .result
   has-must c = rw (← (places-are (c .before)), ← (c .before .before .before .before .before .before .before .pre .1 .1)) (sym (c .is-subset .ensures))
 
@@ -106,7 +110,8 @@ module _ (t : ℕ) where
   returns c =
       let s = c .before .before .before .before .before .before in
       let a = s .args in
-      let e = ap isEmpty (sym (picked (c .before .before .before .before))) ∙ sym (c .before .before .before .is-empty .ensures) ∙ c .before .before .if1 .taken in
+      let e = ap isEmpty (sym (picked (c .before .before .before .before))) ∙ sym (c .before .before .before .is-empty .ensures)
+      ∙ c .before .before .if1 .taken in
       let n = sym (c .before .is-empty2 .ensures) ∙ not-true (c .before .is-empty2 .result) (c .if2 .taken) in
       told-none (not-apart (goes s) (near s) (must s) (a .c) (ps s) (a .dead .now)
       (picked-shared (near s) (a .row .now) (a .number) (low s) (takes s .distinct) e n))
@@ -136,6 +141,8 @@ module _ (t : ℕ) where
   pub returns-3 : try-number-lts.Need-returns-3 (try-number-claims t) (try-number-at t) try-number.Post
   returns-3 c =
       let s = c .before .before .before .before .before .before .before .before .before .before .before .before .before in
-      let e = tried-so (goes s) (near s) (must s) (s .args .c) (ps s) (s .args .dead .now) (fits (c .before .before .before .before .before .before .before .before .before)) (takes s .many)
-      (has-must (c .before .before .before .before .before .before) ∙ not-false (c .before .before .before .before .before .before .is-subset .result) (c .before .before .before .before .before .if3 .left)) in
+      let e = tried-so (goes s) (near s) (must s) (s .args .c) (ps s) (s .args .dead .now)
+      (fits (c .before .before .before .before .before .before .before .before .before)) (takes s .many)
+      (has-must (c .before .before .before .before .before .before)
+      ∙ not-false (c .before .before .before .before .before .before .is-subset .result) (c .before .before .before .before .before .if3 .left)) in
       rw (← e, ← (places-are (c .before .before .before .before .before .before .before))) (c .before .before .try-set .ensures)

@@ -68,7 +68,8 @@ module _ (t : ℕ) where
       let a = c .before .before .before .before .args in
       let n = c .before .by-number in
       rw (first-is c)
-      (first-numbers (a .tables .now) (a .slot) (a .here) (a .ran) (a .c) (n .last .1 .1 .1 .0) (n .result) (few (c .before)) (a .dead .now) (row-is (c .before)))
+      (first-numbers (a .tables .now) (a .slot) (a .here) (a .ran) (a .c) (n .last .1 .1 .1 .0) (n .result) (few (c .before)) (a .dead .now)
+      (row-is (c .before)))
 
   abbrev In-loop : Type 0
   In-loop = try-row-lts.In-loop (try-row-claims t) (try-row-at t) try-row.Post Inv μ
@@ -85,15 +86,21 @@ module _ (t : ℕ) where
 
   -- the turn goes on
   going : (c : In-loop) → let a = c .before .before .before .before .before .before .args in let l = c .before .loop in
-      Going (a .tables .now) (a .slot) (a .here) (a .ran) (a .c) (row (c .before .before .before)) (c .before .before .first-end .result) (a .dead .now) (a .path .now) (l .dead) (l .path) (suc (number c))
+      Going (a .tables .now) (a .slot) (a .here) (a .ran) (a .c) (row (c .before .before .before)) (c .before .before .first-end .result) (a .dead .now)
+      (a .path .now) (l .dead) (l .path) (suc (number c))
   going c = going-next (c .loop-test .taken) (c .before .loop .inv .1)
 
   -- what the code has after the try
-  tried : (c : try-row-lts.After-try-number (try-row-claims t) (try-row-at t) try-row.Post Inv μ) → let a = c .before .before .before .before .before .before .before .before .before .before .before .args in let l = c .before .before .before .before .before .before .loop in let q = c .try-number in
-      Told (a .slot) (tryIn (a .tables .now) (a .slot) (a .here) (a .ran) (a .c) (row (c .before .before .before .before .before .before .before .before)) (number (c .before .before .before .before .before)) (l .dead)) (l .path) (q .result) (q .last .1 .1 .1 .1 .1 .0) (q .last .1 .0)
+  tried : (c : try-row-lts.After-try-number (try-row-claims t) (try-row-at t) try-row.Post Inv μ)
+      → let a = c .before .before .before .before .before .before .before .before .before .before .before .args in
+      let l = c .before .before .before .before .before .before .loop in let q = c .try-number in
+      Told (a .slot) (tryIn (a .tables .now) (a .slot) (a .here) (a .ran) (a .c) (row (c .before .before .before .before .before .before .before .before))
+      (number (c .before .before .before .before .before)) (l .dead)) (l .path) (q .result) (q .last .1 .1 .1 .1 .1 .0) (q .last .1 .0)
   tried c =
       let n = c .before .before .before .before .before .before .before .before .by-number in
-      rw (chosen-low (n .last .1 .1 .1 .0) (n .result) (record { bits = number (c .before .before .before .before .before) }) (few (c .before .before .before .before .before .before .before .before)) (number-low (c .before .before .before .before .before))) at (c .try-number .ensures)
+      rw (chosen-low (n .last .1 .1 .1 .0) (n .result) (record { bits = number (c .before .before .before .before .before) })
+      (few (c .before .before .before .before .before .before .before .before)) (number-low (c .before .before .before .before .before))) at
+      (c .try-number .ensures)
 
   pub by-number-requires : try-row-lts.Need-by-number-requires (try-row-claims t) (try-row-at t) try-row.Post Inv μ
   unfolding Subset
@@ -132,19 +139,23 @@ module _ (t : ℕ) where
           record { can = rw (l .inv .1 .len) (i .can); below = i .below; inside = i .inside },
           s .pre .1 .1,
           byte (c .before .before .before .before),
-          takes-of (A s) (a .slot) (a .c) (n .last .1 .1 .1 .0) (n .result) (few (c .before .before .before .before .before .before .before)) (row-is (c .before .before .before .before .before .before .before)) (number (c .before .before .before .before)) (number-low (c .before .before .before .before))
+          takes-of (A s) (a .slot) (a .c) (n .last .1 .1 .1 .0) (n .result) (few (c .before .before .before .before .before .before .before))
+              (row-is (c .before .before .before .before .before .before .before)) (number (c .before .before .before .before))
+              (number-low (c .before .before .before .before))
               (ended-many (l .inv .0) (c .before .before .before .before .loop-test .taken)) (s .pre .1 .2) (s .pre .1 .3),
         ),
       )
 
   pub same-length : try-row-lts.Need-same-length (try-row-claims t) (try-row-at t) try-row.Post Inv μ
-  same-length c = c .before .before .before .try-number .kept .1 .0 ∙ c .before .before .before .before .before .before .before .before .before .loop .inv .1 .len
+  same-length c = c .before .before .before .try-number .kept .1 .0
+      ∙ c .before .before .before .before .before .before .before .before .before .loop .inv .1 .len
 
   pub returns : try-row-lts.Need-returns (try-row-claims t) (try-row-at t) try-row.Post Inv μ
   returns c =
       let q = tried (c .before .before .before) in
       let e = going-hit (going (c .before .before .before .before .before .before .before .before)) (sym (q .found) ∙ c .if1 .taken) in
-      rw (← (whole (c .before .before .before .before .before .before .before .before .before .before))) (rw (c .if1 .taken, c .before .before .before .before .before .before .before .before .before .loop .inv .1 .path-is) at (told-same e q))
+      rw (← (whole (c .before .before .before .before .before .before .before .before .before .before)))
+      (rw (c .if1 .taken, c .before .before .before .before .before .before .before .before .before .loop .inv .1 .path-is) at (told-same e q))
 
   pub loop-less : try-row-lts.Need-loop-less (try-row-claims t) (try-row-at t) try-row.Post Inv μ
   loop-less c =
@@ -159,9 +170,13 @@ module _ (t : ℕ) where
       let n = number (c .before .before .before .before .before .before .before .before) in
       let g = c .before .before .before .before .before .before .before .before .before .loop .inv .0 in
       let l = c .before .before .before .before .before .before .before .before .loop-test .taken in
-      let d = going-down (a .tables .now) (a .slot) (a .here) (a .ran) (a .c) (r .last .1 .1 .1 .0) (r .result) (few (c .before .before .before .before .before .before .before .before .before .before .before)) {n = n} (omega (arith, number-low (c .before .before .before .before .before .before .before .before)))
-      (going-on (going (c .before .before .before .before .before .before .before .before)) (tried (c .before .before .before)) (c .if1 .left) (c .before .before .before .try-number .kept .1 .0)) in (
-        ended-next g l (c .before .before .before .before .before .before .before .next-end .result) (c .before .before .before .before .before .before .before .next-end .ensures),
+      let d = going-down (a .tables .now) (a .slot) (a .here) (a .ran) (a .c) (r .last .1 .1 .1 .0) (r .result)
+      (few (c .before .before .before .before .before .before .before .before .before .before .before)) {n = n}
+      (omega (arith, number-low (c .before .before .before .before .before .before .before .before)))
+      (going-on (going (c .before .before .before .before .before .before .before .before)) (tried (c .before .before .before)) (c .if1 .left)
+      (c .before .before .before .try-number .kept .1 .0)) in (
+        ended-next g l (c .before .before .before .before .before .before .before .next-end .result)
+            (c .before .before .before .before .before .before .before .next-end .ensures),
         rw (c .before .before .before .before .before .before .before .next-end .ensures, ended-many g l) d,
       )
 

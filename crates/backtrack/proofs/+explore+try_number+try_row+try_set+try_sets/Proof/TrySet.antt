@@ -30,7 +30,8 @@ module _ (t : ℕ) where
   goes s = after (s .args .tables .now) (s .args .slot) (s .args .here)
 
   -- what the call gave
-  child : (c : try-set-lts.After-explore (try-set-claims t) (try-set-at t) try-set.Post) → let s = c .before .before .before .before .before in let e = c .explore in
+  child : (c : try-set-lts.After-explore (try-set-claims t) (try-set-at t) try-set.Post) → let s = c .before .before .before .before .before in
+      let e = c .explore in
       Told (s .args .slot + 1) (goes s (s .args .places) (s .args .dead .now)) (s .args .path .now) (e .result) (e .last .1 .1 .1 .1 .1 .0) (e .last .1 .0)
   unfolding after
   child c = let q = c .explore .ensures in rw (← (c .before .before .union .ensures)) (record { found = q .0; path-is = q .1 .0; dead-is = q .1 .1 })
@@ -46,8 +47,14 @@ module _ (t : ℕ) where
       let s = c .before .before .before .before in
       let a = s .args in
       let m = s .pre .0 in
-      let i = asked s in
-      (omega (arith, low s), rw (c .before .union .ensures) (i .can, reached-after (a .places) i (s .pre .1 .1), must-due (a .tables .now) (a .slot) (a .here) (a .places) (s .pre .1 .2)))
+      let i = asked s in (
+        omega (arith, low s),
+        rw (c .before .union .ensures) (
+          i .can,
+          reached-after (a .places) i (s .pre .1 .1),
+          must-due (a .tables .now) (a .slot) (a .here) (a .places) (s .pre .1 .2),
+        ),
+      )
 
   pub cast-path : try-set-lts.Need-cast-path (try-set-claims t) (try-set-at t) try-set.Post
   unfolding Subset
@@ -63,7 +70,9 @@ module _ (t : ℕ) where
   same-length c = c .before .before .before .before .explore .kept .1 .0
 
   pub returns : try-set-lts.Need-returns (try-set-claims t) (try-set-at t) try-set.Post
-  returns c = let s = c .before .before .before .before .before .before .before .before .before in told-hit (s .args .slot) (goes s) (s .args .places) (s .args .dead .now) (s .args .path .now) (child (c .before .before .before .before)) (c .before .if1 .taken)
+  returns c = let s = c .before .before .before .before .before .before .before .before .before in
+      told-hit (s .args .slot) (goes s) (s .args .places) (s .args .dead .now) (s .args .path .now) (child (c .before .before .before .before))
+      (c .before .if1 .taken)
 
   pub same-length-2 : try-set-lts.Need-same-length-2 (try-set-claims t) (try-set-at t) try-set.Post
   same-length-2 c = c .before .before .before .explore .kept .1 .0
@@ -72,4 +81,5 @@ module _ (t : ℕ) where
   returns-2 c =
       let s = c .before .before .before .before .before .before .before .before in
       let a = s .args in
-      told-miss (a .slot) (goes s) (a .places) (a .dead .now) (a .path .now) (child (c .before .before .before)) (after-empty (a .tables .now) (a .slot) (a .here) (a .places) (a .dead .now)) (c .if1 .left)
+      told-miss (a .slot) (goes s) (a .places) (a .dead .now) (a .path .now) (child (c .before .before .before))
+      (after-empty (a .tables .now) (a .slot) (a .here) (a .places) (a .dead .now)) (c .if1 .left)

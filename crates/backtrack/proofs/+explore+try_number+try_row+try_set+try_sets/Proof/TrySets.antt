@@ -60,18 +60,23 @@ module _ (t : ℕ) where
   able-is : (c : try-sets-lts.After-union (try-sets-claims t) (try-sets-at t) try-sets.Post) → c .union .result ≡ able (c .before .before .before .before)
   able-is c = c .union .ensures ∙ ap (λ (x : Found). union (x .forced) (x .tied)) (found-is (c .before .before))
 
-  must-is : (c : try-sets-lts.After-minus (try-sets-claims t) (try-sets-at t) try-sets.Post) → c .minus .result ≡ must (c .before .before .before .before .before .before)
+  must-is : (c : try-sets-lts.After-minus (try-sets-claims t) (try-sets-at t) try-sets.Post) → c .minus .result
+      ≡ must (c .before .before .before .before .before .before)
   unfolding tablesIn
   must-is c = c .minus .ensures ∙ ap₂ minus (c .before .set-at .ensures) (here-is (c .before .before .before .before .before .before))
 
   -- whether the candidates have it
-  has-must : (c : try-sets-lts.After-is-subset (try-sets-claims t) (try-sets-at t) try-sets.Post) → let s = c .before .before .before .before .before .before .before in isSubset (must s) (able s) ≡ c .is-subset .result
+  has-must : (c : try-sets-lts.After-is-subset (try-sets-claims t) (try-sets-at t) try-sets.Post)
+      → let s = c .before .before .before .before .before .before .before in isSubset (must s) (able s) ≡ c .is-subset .result
   has-must c = rw (← (must-is (c .before)), ← (able-is (c .before .before .before))) (sym (c .is-subset .ensures))
 
   -- what the slot tries
-  choice-is : (c : try-sets-lts.After-choice-of (try-sets-claims t) (try-sets-at t) try-sets.Post) → let s = c .before .before .before .before .before .before .before .before .before .before .before .before .before .before in
+  choice-is : (c : try-sets-lts.After-choice-of (try-sets-claims t) (try-sets-at t) try-sets.Post)
+      → let s = c .before .before .before .before .before .before .before .before .before .before .before .before .before .before in
       c .choice-of .result ≡ choiceOf (capIn (words s)) (found s)
-  choice-is c = let s = c .before .before .before .before .before .before .before .before .before .before .before .before .before .before in c .choice-of .ensures ∙ ap (choiceOf (capIn (words s))) (found-is (c .before .before .before .before .before .before .before .before .before .before .before .before))
+  choice-is c = let s = c .before .before .before .before .before .before .before .before .before .before .before .before .before .before in
+      c .choice-of .ensures ∙ ap (choiceOf (capIn (words s)))
+      (found-is (c .before .before .before .before .before .before .before .before .before .before .before .before))
 
   pub candidates-at-requires : try-sets-lts.Need-candidates-at-requires (try-sets-claims t) (try-sets-at t) try-sets.Post
   candidates-at-requires c κs = low (c .before)
@@ -95,35 +100,53 @@ module _ (t : ℕ) where
   is-subset-requires c κs = tt
 
   pub returns : try-sets-lts.Need-returns (try-sets-claims t) (try-sets-at t) try-sets.Post
-  returns c = told-none (sets-late (asked (c .before .before .before .before .before .before .before .before)) (c .before .before .before .before .before .before .before .before .args .dead .now) (has-must (c .before) ∙ not-true (c .before .is-subset .result) (c .if1 .taken)))
+  returns c = told-none (sets-late (asked (c .before .before .before .before .before .before .before .before))
+      (c .before .before .before .before .before .before .before .before .args .dead .now) (has-must (c .before)
+      ∙ not-true (c .before .is-subset .result) (c .if1 .taken)))
 
   pub is-empty-requires : try-sets-lts.Need-is-empty-requires (try-sets-claims t) (try-sets-at t) try-sets.Post
   is-empty-requires c κs = tt
 
   pub exceeds-requires : try-sets-lts.Need-exceeds-requires (try-sets-claims t) (try-sets-at t) try-sets.Post
-  exceeds-requires c κs = rw (found-is (c .before .before .before .before .before .before .before .before .before)) (fit-eight (asked (c .before .before .before .before .before .before .before .before .before .before .before)))
+  exceeds-requires c κs = rw (found-is (c .before .before .before .before .before .before .before .before .before))
+      (fit-eight (asked (c .before .before .before .before .before .before .before .before .before .before .before)))
 
   pub try-set-requires : try-sets-lts.Need-try-set-requires (try-sets-claims t) (try-sets-at t) try-sets.Post
   try-set-requires c κs =
       let s = c .before .before .before .before .before .before .before .before .before .before .before .before .before .before .before in
       let m = s .pre .0 in
-      let h = has-must (c .before .before .before .before .before .before .before .before) ∙ not-false (c .before .before .before .before .before .before .before .before .is-subset .result) (c .before .before .before .before .before .before .before .if1 .left) in
-      (omega arith, rw (here-is s, able-is (c .before .before .before .before .before .before .before .before .before .before .before)) (in-slot (asked s), able-held (asked s), h))
+      let h = has-must (c .before .before .before .before .before .before .before .before)
+      ∙ not-false (c .before .before .before .before .before .before .before .before .is-subset .result)
+      (c .before .before .before .before .before .before .before .if1 .left) in (
+        omega arith,
+        rw (here-is s, able-is (c .before .before .before .before .before .before .before .before .before .before .before)) (
+          in-slot (asked s),
+          able-held (asked s),
+          h,
+        ),
+      )
 
   pub same-length : try-sets-lts.Need-same-length (try-sets-claims t) (try-sets-at t) try-sets.Post
   same-length c = c .before .before .try-set .kept .1 .0
 
   pub returns-2 : try-sets-lts.Need-returns-2 (try-sets-claims t) (try-sets-at t) try-sets.Post
   returns-2 c =
-      let s = c .before .before .before .before .before .before .before .before .before .before .before .before .before .before .before .before .before .before in
-      let k = c .before .before .before .before .before .before .before .before .before .before .before .before .before .before .before .before .candidates-at .result in
+      let s = c .before .before .before .before .before .before .before .before .before .before .before .before .before .before .before .before .before .before
+      in
+      let k = c .before .before .before .before .before .before .before .before .before .before .before .before .before .before .before .before .candidates-at
+      .result in
       let f = found-is (c .before .before .before .before .before .before .before .before .before .before .before .before .before .before .before .before) in
-      let n = ap (λ (x : Found). isEmpty (x .shared)) (sym f) ∙ sym (c .before .before .before .before .before .before .before .before .is-empty .ensures) ∙ c .before .before .before .before .before .before .before .if2 .taken in
-      let l = ltb-false (capIn (words s)) (fitOf (plain k)) (sym (c .before .before .before .before .before .before .exceeds .ensures) ∙ not-true (c .before .before .before .before .before .before .exceeds .result) (c .before .before .before .before .before .if3 .taken)) in
-      told-same (sets-one (asked s) (s .args .dead .now) n (rw f at l)) (rw (here-is s, able-is (c .before .before .before .before .before .before .before .before .before .before .before .before .before .before)) at (c .before .before .try-set .ensures))
+      let n = ap (λ (x : Found). isEmpty (x .shared)) (sym f) ∙ sym (c .before .before .before .before .before .before .before .before .is-empty .ensures)
+      ∙ c .before .before .before .before .before .before .before .if2 .taken in
+      let l = ltb-false (capIn (words s)) (fitOf (plain k)) (sym (c .before .before .before .before .before .before .exceeds .ensures)
+      ∙ not-true (c .before .before .before .before .before .before .exceeds .result) (c .before .before .before .before .before .if3 .taken)) in
+      told-same (sets-one (asked s) (s .args .dead .now) n (rw f at l))
+      (rw (here-is s, able-is (c .before .before .before .before .before .before .before .before .before .before .before .before .before .before)) at
+      (c .before .before .try-set .ensures))
 
   pub choice-of-requires : try-sets-lts.Need-choice-of-requires (try-sets-claims t) (try-sets-at t) try-sets.Post
-  choice-of-requires c κs = rw (found-is (c .before .before .before .before .before .before .before .before .before .before .before)) (fit-eight (asked (c .before .before .before .before .before .before .before .before .before .before .before .before .before)))
+  choice-of-requires c κs = rw (found-is (c .before .before .before .before .before .before .before .before .before .before .before))
+      (fit-eight (asked (c .before .before .before .before .before .before .before .before .before .before .before .before .before)))
 
   pub try-row-requires : try-sets-lts.Need-try-row-requires (try-sets-claims t) (try-sets-at t) try-sets.Post
   try-row-requires c κs =

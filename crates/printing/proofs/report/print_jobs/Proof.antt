@@ -49,19 +49,23 @@ print-job-requires c κs = search needs
 
 add-at : tie.Need-add-at Inv-loop μ-loop
 add-at c =
-    let e = ends _ _ _ _ (c .before .before .before .is-whole .ensures) (c .before .before .if1 .left) (c .before .value-at .ensures) in omega (arith, c .before .before .before .before .before .loop .inv)
+    let e = ends _ _ _ _ (c .before .before .before .is-whole .ensures) (c .before .before .if1 .left) (c .before .value-at .ensures) in
+    omega (arith, c .before .before .before .before .before .loop .inv)
 
 add-at-2 : tie.Need-add-at-2 Inv-loop μ-loop
 add-at-2 c =
-    let e = ends _ _ _ _ (c .before .before .before .is-whole .ensures) (c .before .before .if1 .left) (c .before .value-at .ensures) in omega (arith, c .before .before .before .before .before .loop .inv)
+    let e = ends _ _ _ _ (c .before .before .before .is-whole .ensures) (c .before .before .if1 .left) (c .before .value-at .ensures) in
+    omega (arith, c .before .before .before .before .before .loop .inv)
 
 loop-less : tie.Need-loop-less Inv-loop μ-loop
 loop-less c =
-    let e = ends _ _ _ _ (c .before .before .before .is-whole .ensures) (c .before .before .if1 .left) (c .before .value-at .ensures) in omega (arith, c .before .before .before .before .before .loop .inv)
+    let e = ends _ _ _ _ (c .before .before .before .is-whole .ensures) (c .before .before .if1 .left) (c .before .value-at .ensures) in
+    omega (arith, c .before .before .before .before .before .loop .inv)
 
 loop-again : tie.Need-loop-again Inv-loop μ-loop
 loop-again c =
-    let e = ends _ _ _ _ (c .before .before .before .is-whole .ensures) (c .before .before .if1 .left) (c .before .value-at .ensures) in omega (arith, c .before .before .before .before .before .loop .inv)
+    let e = ends _ _ _ _ (c .before .before .before .is-whole .ensures) (c .before .before .if1 .left) (c .before .value-at .ensures) in
+    omega (arith, c .before .before .before .before .before .loop .inv)
 
 returns-2 : tie.Need-returns-2 Inv-loop μ-loop
 returns-2 c = search needs

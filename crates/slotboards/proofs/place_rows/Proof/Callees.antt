@@ -79,12 +79,15 @@ module _ {M : Type 1} (𝓤 : URA M) (H : Heap 𝓤) (A : Atoms 𝓤) (W : Given
     abbrev pub to-with-start : ℕ → JobRecord → WithStart 𝓤 H A mem run .Ghost
     to-with-start i y = ((tt, tt, tt, (c, (i, (y, tt))), (v ∷ [], (vint w64 i ∷ [], (LL.vals T.the-type T′.the-laws y, tt)))), tt)
 
-    pub goes-with-start : (i : ℕ) (y : JobRecord) → i < 400 → Is T.the-row y (LL.vals T.the-type T′.the-laws y) → ent 𝓤 (sem 𝓤 H A ftrue) (WithStart 𝓤 H A mem run .pre (to-with-start i y))
+    pub goes-with-start : (i : ℕ) (y : JobRecord) → i < 400 → Is T.the-row y (LL.vals T.the-type T′.the-laws y)
+        → ent 𝓤 (sem 𝓤 H A ftrue) (WithStart 𝓤 H A mem run .pre (to-with-start i y))
     goes-with-start i y l g =
         qed W (‵ ftrue ∷ []) ∵ says ! l $ frame ! $ nothing ! $ owned ! T.the-row (Is T.the-row) ((LL.makes T.the-type T′.the-plain) 𝓤 H A) y _ g $ fjoin ! $
-        owned ! usize (Is usize) (uint-makes 𝓤 H A W w64) i _ (refl, omega arith) $ fjoin ! $ owned ! U.the-row (Is U.the-row) ((LL.makes U.the-type U′.the-plain) 𝓤 H A) c _ is $ fjoin ! $ done !
+        owned ! usize (Is usize) (uint-makes 𝓤 H A W w64) i _ (refl, omega arith) $ fjoin ! $
+        owned ! U.the-row (Is U.the-row) ((LL.makes U.the-type U′.the-plain) 𝓤 H A) c _ is $ fjoin ! $ done !
 
-    pub got-with-start : (i : ℕ) (y : JobRecord) (t : Columns) → ent 𝓤 (ensured 𝓤 H A with-start.ended (with-start.clauses 𝓤 H A mem run) tt (c, (i, (y, tt))) tt t) (fact 𝓤 (t ≡ withStart c i y))
+    pub got-with-start : (i : ℕ) (y : JobRecord) (t : Columns)
+        → ent 𝓤 (ensured 𝓤 H A with-start.ended (with-start.clauses 𝓤 H A mem run) tt (c, (i, (y, tt))) tt t) (fact 𝓤 (t ≡ withStart c i y))
     got-with-start i y t = exE 𝓤 _ (λ ws. snd∗ 𝓤 (sem 𝓤 H A (lasts with-start.ended tt (c, (i, (y, tt))) ws)) (fact 𝓤 (t ≡ withStart c i y)))
 
     abbrev pub to-record-of : ℕ → RecordOf 𝓤 H A mem run .Ghost
@@ -95,14 +98,21 @@ module _ {M : Type 1} (𝓤 : URA M) (H : Heap 𝓤) (A : Atoms 𝓤) (W : Given
         qed W (‵ ftrue ∷ []) ∵ says ! l $ frame ! $ nothing ! $ owned ! usize (Is usize) (uint-makes 𝓤 H A W w64) i _ (refl, omega arith) $ fjoin ! $
         owned ! U.the-row (Is U.the-row) ((LL.makes U.the-type U′.the-plain) 𝓤 H A) c _ is $ fjoin ! $ done !
 
-    pub got-record-of : (i : ℕ) (y : JobRecord) → ent 𝓤 (ensured 𝓤 H A record-of.ended (record-of.clauses 𝓤 H A mem run) tt (c, (i, tt)) tt y) (fact 𝓤 (y ≡ recordOf c i))
+    pub got-record-of : (i : ℕ) (y : JobRecord)
+        → ent 𝓤 (ensured 𝓤 H A record-of.ended (record-of.clauses 𝓤 H A mem run) tt (c, (i, tt)) tt y) (fact 𝓤 (y ≡ recordOf c i))
     got-record-of i y = exE 𝓤 _ (λ ws. snd∗ 𝓤 (sem 𝓤 H A (lasts record-of.ended tt (c, (i, tt)) ws)) (fact 𝓤 (y ≡ recordOf c i)))
 
     -- `tables` and `places` go to the callee at their own lifetimes, whose tokens come back
     module _ (κ : Lft) (q : Share) (κ₂ : Lft) (q₂ : Share) (g pl : RefT (List ℕ)) (n slots : ℕ) where
       abbrev pub to-place : Place 𝓤 H A mem run .Ghost
       to-place = (
-        ((κ, (κ₂, tt)), (q, (q₂, tt)), tt, (c, (g, (pl, (n, (slots, tt))))), (v ∷ [], (ptr-vals g, (ptr-vals pl, (vint w64 n ∷ [], (vint w64 slots ∷ [], tt)))))),
+        (
+          (κ, (κ₂, tt)),
+          (q, (q₂, tt)),
+          tt,
+          (c, (g, (pl, (n, (slots, tt))))),
+          (v ∷ [], (ptr-vals g, (ptr-vals pl, (vint w64 n ∷ [], (vint w64 slots ∷ [], tt))))),
+        ),
         tt,
       )
 
@@ -113,13 +123,17 @@ module _ {M : Type 1} (𝓤 : URA M) (H : Heap 𝓤) (A : Atoms 𝓤) (W : Given
       abbrev pub Got : Columns → Type 0
       Got t = (t .starts ≡ c .starts) × Boarded n (g .now) (pathOf (c .starts) (pl .now) n) slots (t .count) (t .boards)
 
-      pub goes-place : Asked → ent 𝓤 (⋆ 𝓤 H A ((‵ (flft κ q) ⊛ (‵ (flft κ₂ q₂) ⊛ ‵ ftrue)) ∷ ‵ (ShrRef (named 0) κ Words .own g (ptr-vals g)) ∷ ‵ (ShrRef (named 1) κ₂ Bytes .own pl (ptr-vals pl)) ∷ []))
+      pub goes-place : Asked → ent 𝓤 (⋆ 𝓤 H A ((‵ (flft κ q) ⊛ (‵ (flft κ₂ q₂) ⊛ ‵ ftrue)) ∷ ‵ (ShrRef (named 0) κ Words .own g (ptr-vals g))
+          ∷ ‵ (ShrRef (named 1) κ₂ Bytes .own pl (ptr-vals pl)) ∷ []))
           (Place 𝓤 H A mem run .pre to-place)
       goes-place ok =
-          qed W ((‵ (flft κ q) ⊛ (‵ (flft κ₂ q₂) ⊛ ‵ ftrue)) ∷ ‵ (ShrRef (named 0) κ Words .own g (ptr-vals g)) ∷ ‵ (ShrRef (named 1) κ₂ Bytes .own pl (ptr-vals pl)) ∷ []) ∵ says ! ok $ frame ! $
+          qed W ((‵ (flft κ q) ⊛ (‵ (flft κ₂ q₂) ⊛ ‵ ftrue)) ∷ ‵ (ShrRef (named 0) κ Words .own g (ptr-vals g))
+          ∷ ‵ (ShrRef (named 1) κ₂ Bytes .own pl (ptr-vals pl)) ∷ []) ∵ says ! ok $ frame ! $
           nothing ! $ owned ! usize (Is usize) (uint-makes 𝓤 H A W w64) slots _ (refl, lt-of-le-of-lt (ok .1 .able .slots-few) (lit< tt)) $ fjoin ! $
-          owned ! usize (Is usize) (uint-makes 𝓤 H A W w64) n _ (refl, lt-of-le-of-lt (ok .1 .able .few) (lit< tt)) $ fjoin ! $ move ! (2 ∷ 0 ∷ []) $ fjoin ! $ move ! (1 ∷ 0 ∷ []) $ fjoin ! $
+          owned ! usize (Is usize) (uint-makes 𝓤 H A W w64) n _ (refl, lt-of-le-of-lt (ok .1 .able .few) (lit< tt)) $ fjoin ! $ move ! (2 ∷ 0 ∷ []) $ fjoin ! $
+          move ! (1 ∷ 0 ∷ []) $ fjoin ! $
           owned ! U.the-row (Is U.the-row) ((LL.makes U.the-type U′.the-plain) 𝓤 H A) c _ is $ fjoin ! $ done !
 
-      pub got-place : (t : Columns) → ent 𝓤 (ensured 𝓤 H A place.ended (place.clauses 𝓤 H A mem run) (κ, (κ₂, tt)) (c, (g, (pl, (n, (slots, tt))))) tt t) (fact 𝓤 (Got t))
+      pub got-place : (t : Columns) → ent 𝓤 (ensured 𝓤 H A place.ended (place.clauses 𝓤 H A mem run) (κ, (κ₂, tt)) (c, (g, (pl, (n, (slots, tt))))) tt t)
+          (fact 𝓤 (Got t))
       got-place t = exE 𝓤 _ (λ ws. snd∗ 𝓤 (sem 𝓤 H A (lasts place.ended (κ, (κ₂, tt)) (c, (g, (pl, (n, (slots, tt))))) ws)) (fact 𝓤 (Got t)))

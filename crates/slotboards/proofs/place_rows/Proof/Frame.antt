@@ -107,7 +107,13 @@ pub record Locals : Type 0 where
   pub l₁₄ : ℕ
 
 abbrev pub stayed : Stays (pr.ended .signature .params) (pr.ended .kept)
-stayed = (stay-slice (0 ∷ []) tt (plain (λ _. T.the-row)), (stay-none-ref (1 ∷ []) tt (arrayOf (plain (λ _. u16)) tableWords) kept, (stay-none-ref (2 ∷ []) tt (arrayOf (plain (λ _. u8)) 400) kept, (stay-none (λ _. usize) kept, tt))))
+stayed = (
+  stay-slice (0 ∷ []) tt (plain (λ _. T.the-row)),
+  (
+    stay-none-ref (1 ∷ []) tt (arrayOf (plain (λ _. u16)) tableWords) kept,
+    (stay-none-ref (2 ∷ []) tt (arrayOf (plain (λ _. u8)) 400) kept, (stay-none (λ _. usize) kept, tt)),
+  ),
+)
 
 module _ (p : Setting) where
   open Setting p using (κ, q, κ′, q′, κ″, q″, b, o, γ, ys, g, pl, slots, room, slots-fits, ok)
@@ -153,26 +159,46 @@ module _ {M : Type 1} (𝓤 : URA M) (H : Heap 𝓤) (A : Atoms 𝓤) (W : Given
 
   -- the row is written, and the borrow closed
   pub exits : (c : Columns) → Done p c → c .count < 2 ^ 64
-      → ent 𝓤 (⋆ 𝓤 H A (‵ (fobs γ (codedHoleys T.the-row .code (heres T.the-row (stored c (length ys) ys)))) ∷ ‵ (fbor κ (Held T.the-row (length (stored c (length ys) ys)) b o γ)) ∷ ‵ (flft κ q) ∷ (‵ (flft κ′ q′) ⊛ (‵ (flft κ″ q″) ⊛ ‵ ftrue)) ∷ ‵ (Own p) ∷ ‵ (Own₂ p) ∷ [])) (Post (vint w64 (c .count)))
+      → ent 𝓤 (⋆ 𝓤 H A (‵ (fobs γ (codedHoleys T.the-row .code (heres T.the-row (stored c (length ys) ys))))
+      ∷ ‵ (fbor κ (Held T.the-row (length (stored c (length ys) ys)) b o γ)) ∷ ‵ (flft κ q) ∷ (‵ (flft κ′ q′) ⊛ (‵ (flft κ″ q″) ⊛ ‵ ftrue)) ∷ ‵ (Own p)
+      ∷ ‵ (Own₂ p) ∷ [])) (Post (vint w64 (c .count)))
   exits c e count-fits =
-      qed W (‵ (fobs γ (codedHoleys T.the-row .code (heres T.the-row (stored c (length ys) ys)))) ∷ ‵ (fbor κ (Held T.the-row (length (stored c (length ys) ys)) b o γ)) ∷ ‵ (flft κ q) ∷ (‵ (flft κ′ q′) ⊛ (‵ (flft κ″ q″) ⊛ ‵ ftrue)) ∷ ‵ (Own p) ∷ ‵ (Own₂ p) ∷ []) ∵
-      suffices ! _ (ends-at 𝓤 H A pr.ended stayed (pr.clauses 𝓤 H A mem run) W (((κ, (κ′, (κ″, tt))), (q, (q′, (q″, tt))), tt, a p, vals p), tt) (vint w64 (c .count)) (c .count) (stored c (length ys) ys, (tt, (tt, (tt, tt)))) (length-stored c (length ys) ys, (tt, (tt, (tt, tt))))) $
+      qed W (‵ (fobs γ (codedHoleys T.the-row .code (heres T.the-row (stored c (length ys) ys))))
+      ∷ ‵ (fbor κ (Held T.the-row (length (stored c (length ys) ys)) b o γ)) ∷ ‵ (flft κ q) ∷ (‵ (flft κ′ q′) ⊛ (‵ (flft κ″ q″) ⊛ ‵ ftrue)) ∷ ‵ (Own p)
+      ∷ ‵ (Own₂ p) ∷ []) ∵
+      suffices ! _ (ends-at 𝓤 H A pr.ended stayed (pr.clauses 𝓤 H A mem run) W (
+        ((κ, (κ′, (κ″, tt))), (q, (q′, (q″, tt))), tt, a p, vals p),
+        tt,
+      ) (vint w64 (c .count)) (c .count) (stored c (length ys) ys, (tt, (tt, (tt, tt)))) (length-stored c (length ys) ys, (tt, (tt, (tt, tt))))) $
       says ! (rows-placed ys (g .now) (pl .now) slots c (e .starts) (e .boards)) $ move ! (2 ∷ 3 ∷ []) $ join ! $ frame ! $
-      fjoin ! $ pureI ! (at-slice T.the-row (record { ptr = (b, o); name = γ; now = stored c (length ys) ys }) (s p ∷ [])) (tt, (tt, tt)) (ap (λ (m : ℕ). sliceVal (b, o) m ∷ []) (sym (length-stored c (length ys) ys)), subst (Room T.the-row) (sym (length-stored c (length ys) ys)) room) $ fjoin ! $
-      nothing ! $ owned ! usize (Is usize) (uint-makes 𝓤 H A W w64) slots _ (refl, slots-fits) $ fjoin ! $ move ! (3 ∷ 0 ∷ []) $ fjoin ! $ move ! (2 ∷ 0 ∷ []) $ fjoin ! $ move ! (1 ∷ 0 ∷ []) $ fjoin ! $
+      fjoin ! $ pureI ! (at-slice T.the-row (record { ptr = (b, o); name = γ; now = stored c (length ys) ys }) (s p ∷ [])) (
+        tt,
+        (tt, tt),
+      ) (
+        ap (λ (m : ℕ). sliceVal (b, o) m ∷ []) (sym (length-stored c (length ys) ys)),
+        subst (Room T.the-row) (sym (length-stored c (length ys) ys)) room,
+      ) $ fjoin ! $
+      nothing ! $ owned ! usize (Is usize) (uint-makes 𝓤 H A W w64) slots _ (refl, slots-fits) $ fjoin ! $ move ! (3 ∷ 0 ∷ []) $ fjoin ! $ move ! (2 ∷ 0 ∷ []) $
+      fjoin ! $ move ! (1 ∷ 0 ∷ []) $ fjoin ! $
       owned ! usize (Is usize) (uint-makes 𝓤 H A W w64) (c .count) _ (refl, count-fits) $ move ! (1 ∷ 0 ∷ []) $ done !
 
   module _ (k : Locals) where
     open Locals k using (l₀, l₁, l₂, l₃, l₄, l₅, l₆, l₇, l₈, l₉, l₁₀, l₁₁, l₁₂, l₁₃, l₁₄)
 
     abbrev pub En : Env 𝓤 H
-    En = (word, l₀) ∷ (slice, l₁) ∷ (words, l₂) ∷ (bytes, l₃) ∷ (word, l₄) ∷ (arrays, l₅) ∷ (word, l₆) ∷ (word, l₇) ∷ (flag, l₈) ∷ (ptr, l₉) ∷ (rec, l₁₀) ∷ (word, l₁₁) ∷ (flag, l₁₂) ∷ (rec, l₁₃) ∷ (ptr, l₁₄) ∷ []
+    En = (word, l₀) ∷ (slice, l₁) ∷ (words, l₂) ∷ (bytes, l₃) ∷ (word, l₄) ∷ (arrays, l₅) ∷ (word, l₆) ∷ (word, l₇) ∷ (flag, l₈) ∷ (ptr, l₉) ∷ (rec, l₁₀)
+        ∷ (word, l₁₁) ∷ (flag, l₁₂) ∷ (rec, l₁₃) ∷ (ptr, l₁₄) ∷ []
 
     -- the context at a loop's head: the row at a list, i, and the arrays' machine value
     abbrev pub Ctx : List JobRecord → ℕ → Val → List (Item 𝓤)
-    Ctx l i v = ‵ (row T.the-row fullShare l b o) ∷ ‵ (froom ptr l₁₄ 0) ∷ ‵ (fdies ptr l₁₄) ∷ ‵ (froom rec l₁₃ 0) ∷ ‵ (fdies rec l₁₃) ∷ ‵ (froom flag l₁₂ 0) ∷ ‵ (fdies flag l₁₂) ∷ ‵ (froom word l₁₁ 0) ∷ ‵ (fdies word l₁₁)
-        ∷ ‵ (froom rec l₁₀ 0) ∷ ‵ (fdies rec l₁₀) ∷ ‵ (froom ptr l₉ 0) ∷ ‵ (fdies ptr l₉) ∷ ‵ (froom flag l₈ 0) ∷ ‵ (fdies flag l₈) ∷ ‵ (froom word l₇ 0) ∷ ‵ (fdies word l₇)
-        ∷ ‵ (fat fullShare word l₆ 0 (vint w64 i)) ∷ ‵ (fdies word l₆) ∷ ‵ (fat fullShare arrays l₅ 0 v) ∷ ‵ (fdies arrays l₅) ∷ ‵ (fat fullShare word l₄ 0 (vint w64 slots)) ∷ ‵ (fdies word l₄)
-        ∷ ‵ (fat fullShare bytes l₃ 0 (pp p)) ∷ ‵ (fdies bytes l₃) ∷ ‵ (fat fullShare words l₂ 0 (pg p)) ∷ ‵ (fdies words l₂) ∷ ‵ (fat fullShare slice l₁ 0 (s p)) ∷ ‵ (fdies slice l₁) ∷ ‵ (froom word l₀ 0) ∷ ‵ (fdies word l₀)
-        ∷ ‵ (fobor κ q (Held T.the-row (length ys) b o γ)) ∷ ‵ (fobs γ (codedHoleys T.the-row .code (heres T.the-row ys))) ∷ ‵ (fauth γ (codedHoleys T.the-row .code (heres T.the-row ys)))
+    Ctx l i v = ‵ (row T.the-row fullShare l b o) ∷ ‵ (froom ptr l₁₄ 0) ∷ ‵ (fdies ptr l₁₄) ∷ ‵ (froom rec l₁₃ 0) ∷ ‵ (fdies rec l₁₃) ∷ ‵ (froom flag l₁₂ 0)
+        ∷ ‵ (fdies flag l₁₂) ∷ ‵ (froom word l₁₁ 0) ∷ ‵ (fdies word l₁₁)
+        ∷ ‵ (froom rec l₁₀ 0) ∷ ‵ (fdies rec l₁₀) ∷ ‵ (froom ptr l₉ 0) ∷ ‵ (fdies ptr l₉) ∷ ‵ (froom flag l₈ 0) ∷ ‵ (fdies flag l₈) ∷ ‵ (froom word l₇ 0)
+        ∷ ‵ (fdies word l₇)
+        ∷ ‵ (fat fullShare word l₆ 0 (vint w64 i)) ∷ ‵ (fdies word l₆) ∷ ‵ (fat fullShare arrays l₅ 0 v) ∷ ‵ (fdies arrays l₅)
+        ∷ ‵ (fat fullShare word l₄ 0 (vint w64 slots)) ∷ ‵ (fdies word l₄)
+        ∷ ‵ (fat fullShare bytes l₃ 0 (pp p)) ∷ ‵ (fdies bytes l₃) ∷ ‵ (fat fullShare words l₂ 0 (pg p)) ∷ ‵ (fdies words l₂)
+        ∷ ‵ (fat fullShare slice l₁ 0 (s p)) ∷ ‵ (fdies slice l₁) ∷ ‵ (froom word l₀ 0) ∷ ‵ (fdies word l₀)
+        ∷ ‵ (fobor κ q (Held T.the-row (length ys) b o γ)) ∷ ‵ (fobs γ (codedHoleys T.the-row .code (heres T.the-row ys)))
+        ∷ ‵ (fauth γ (codedHoleys T.the-row .code (heres T.the-row ys)))
         ∷ (‵ (flft κ′ q′) ⊛ (‵ (flft κ″ q″) ⊛ ‵ ftrue)) ∷ ‵ (Own p) ∷ ‵ (Own₂ p) ∷ []

@@ -39,15 +39,20 @@ runs-at-requires c κs =
 
 returns : tie.Need-returns Inv-loop μ-loop
 returns c =
-    sym (row-found _ _ _ _ _ (c .before .before .before .before .before .before .before .before .pre) (c .before .before .before .before .loop-test .taken) (sym (c .before .runs-at .ensures) ∙ c .if1 .taken)) ∙ c .before .before .before .before .before .loop .inv .1
+    sym (row-found _ _ _ _ _ (c .before .before .before .before .before .before .before .before .pre) (c .before .before .before .before .loop-test .taken)
+    (sym (c .before .runs-at .ensures) ∙ c .if1 .taken)) ∙ c .before .before .before .before .before .loop .inv .1
 
 loop-less : tie.Need-loop-less Inv-loop μ-loop
 loop-less c =
     omega arith
 
 loop-again : tie.Need-loop-again Inv-loop μ-loop
-loop-again c =
-    (omega arith, sym (row-passed _ _ _ _ _ (c .before .before .before .before .before .before .before .before .pre) (c .before .before .before .before .loop-test .taken) (sym (c .before .runs-at .ensures) ∙ c .if1 .left)) ∙ c .before .before .before .before .before .loop .inv .1)
+loop-again c = (
+  omega arith,
+  sym (row-passed _ _ _ _ _ (c .before .before .before .before .before .before .before .before .pre)
+      (c .before .before .before .before .loop-test .taken) (sym (c .before .runs-at .ensures) ∙ c .if1 .left))
+      ∙ c .before .before .before .before .before .loop .inv .1,
+)
 
 returns-2 : tie.Need-returns-2 Inv-loop μ-loop
 returns-2 c =
