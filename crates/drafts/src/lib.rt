@@ -1,7 +1,7 @@
 // Small job files for test programs, written at the front of a lent array. Each job has the name `a` and level 0.
 use sizes::TABLE_BYTES;
 ghost use mathlib.Core.Path.{_≡_};
-ghost use Prim.Native.Nat.{_+_, _*_, _≤_};
+ghost use Prim.Native.Nat.{_+_, _-_, _*_, _/_, _<_, _≤_};
 ghost use lib.ListN.{take};
 
 // A byte, where the array has its place.
@@ -88,12 +88,12 @@ pub fn put_wide_need(file: &mut [u8; TABLE_BYTES], at: usize, giver: u16, taker:
     at + 7
 }
 
-// A need, with numbers of one byte where one byte holds both, behind so many bytes. Gives the length with it.
+// A need to a later job, with numbers of one byte where one byte holds both, behind so many bytes. Gives the length with it.
 fn put_short_need(file: &mut [u8; TABLE_BYTES], at: usize, giver: u16, taker: u16) -> usize
-    requires { ⌜ at ≤ 7599 ⌝ }
-    ensures { λ r. ⌜ r ≤ at + 7 ⌝ }
+    requires { ⌜ (at ≤ 7599) × (giver ≤ taker) × (taker < 512) ⌝ }
+    ensures { λ r. ⌜ r ≡ at + 5 + 2 * (taker / 256) ⌝ }
 {
-    if giver < 256 && taker < 256 {
+    if taker < 256 {
         return put_need(file, at, giver as u8, taker as u8);
     }
     put_wide_need(file, at, giver, taker)
@@ -103,6 +103,7 @@ fn put_short_need(file: &mut [u8; TABLE_BYTES], at: usize, giver: u16, taker: u1
 // chains. Gives the length with them.
 pub fn put_chains(file: &mut [u8; TABLE_BYTES], from: usize, chains: u16, jobs: u16) -> usize
     requires { ⌜ (from ≤ 2414) × (chains ≤ 8) × (jobs ≤ 401) ⌝ }
+    ensures { λ r. ⌜ r ≡ from + 5 * (jobs - chains) + 2 * (jobs - 255) ⌝ }
 {
     let mut at = from;
     let mut taker = 1 + chains;
