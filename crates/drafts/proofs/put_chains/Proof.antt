@@ -46,8 +46,7 @@ loop-less c = search needs
 loop-again : tie.Need-loop-again Inv-loop μ-loop
 loop-again c =
     let l = c .before .before .before .loop in
-    let a = c .before .before .before .before .args in
-    (
+    let a = c .before .before .before .before .args in (
       omega arith,
       omega arith,
       c .put-short-need .ensures ∙ ap (λ (x : ℕ). x + 5 + 2 * (l .taker / 256)) (l .inv .2) ∙ step (a .from) (a .chains) (l .taker) (l .inv .0) (omega arith),
