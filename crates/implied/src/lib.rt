@@ -9,6 +9,7 @@ use needrows::WORD_BITS;
 use needrows::word;
 use needrows::words;
 use sizes::MAX_JOBS;
+use sizes::PAIR_ENTRIES;
 ghost use mathlib.Core.Path.{_≡_};
 ghost use mathlib.Core.List.{[], _∷_};
 ghost use Prim.Native.Nat.{ℕ, _+_, _*_, _≤_, _<_};
@@ -22,9 +23,6 @@ ghost use Rattle.releases.specs.Ordered.{OrderOf};
 ghost use Rattle.releases.specs.Peels.{numbered};
 ghost use Rattle.implied.specs.Beyond.{Others, RowsThere, Joined, BeyondAre};
 ghost use Rattle.implied.specs.Listing.{pairsOf, Few, rowFrom, rowsFrom, listingOf};
-
-// The entries of a list that has room for the pairs of every file (question 1).
-const LIST_ENTRIES: usize = 19660;
 
 // A list of so many pairs; or the number of the question that said no.
 pub enum Listed {
@@ -166,7 +164,7 @@ fn put_rows(takers: &[u8], beyond: &[u8], jobs: usize, list: &mut [u16]) -> usiz
 pub fn implied_needs(file: &[u8], list: &mut [u16]) -> Listed
     ensures { λ r. ⌜ listingOf r (now (list .exit)) ≡ listImplied (now (file .entry)) (now (list .entry)) ⌝ }
 {
-    if list.len() < LIST_ENTRIES {
+    if list.len() < PAIR_ENTRIES {
         return Listed::Refused(1);
     }
     let mut offsets = [0; MAX_JOBS];

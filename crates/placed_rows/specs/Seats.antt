@@ -3,7 +3,7 @@ use mathlib.Core.Path.{_≡_}
 use mathlib.Core.List.{List}
 use Prim.Native.Nat.{ℕ, zero, suc, _+_, _*_}
 use lib.ListN.{set, replicate}
-use Rattle.rules.specs.Sizes.{maxJobs}
+use Rattle.rules.specs.Sizes.{maxWidth, maxJobs}
 use Rattle.rules.specs.Basics.{at}
 use Rattle.rules.specs.Needs.{Need}
 use Rattle.layout.specs.Layout.{tableWords, whoAt, prevAt}
@@ -19,7 +19,7 @@ SeatsIn seats = PathIn (seats .slots) (seats .places) 8
 
 -- the tables with job i at place p of slot s, with its givers in the slot before
 unfoldable pub seatWords : ℕ → ℕ → ℕ → ℕ → List ℕ → List ℕ
-seatWords i s p before words = set (set words (whoAt + 8 * s + p) i) (prevAt + 8 * s + p) before
+seatWords i s p before words = set (set words (whoAt + maxWidth * s + p) i) (prevAt + maxWidth * s + p) before
 
 -- the tables with the first n jobs at their seats
 unfoldable pub wordsFrom : Seats → ℕ → List ℕ → List ℕ

@@ -6,7 +6,7 @@ use Prim.Native.Nat.{ℕ, _+_}
 use native.Mathlib.Numerals.{add-one}
 use lib.ListN.{length, set}
 use lib.Dec.{T, leb, ltb, eqb}
-use Rattle.rules.specs.Sizes.{maxLimit, maxJobs}
+use Rattle.rules.specs.Sizes.{maxLimit, maxWidth, maxJobs}
 use Rattle.rules.specs.Basics.{at, imp, all, range}
 use Rattle.rules.specs.Needs.{Need, givesb}
 use Rattle.rules.specs.Program.{slots, keptb}
@@ -42,7 +42,7 @@ rows-turn starts i = rw (add-one i)
 
 -- job i has a place below 8, where the tables have it
 abbrev pub satb : List ℕ → List ℕ → List ℕ → ℕ → Bool
-satb t words places i = ltb (at places i) 8 && eqb (tablesIn words .who (at t i) (at places i)) i
+satb t words places i = ltb (at places i) maxWidth && eqb (tablesIn words .who (at t i) (at places i)) i
 
 -- where g starts in the slot before i, the tables have its place among the givers of i exactly where g gives to i
 abbrev pub giverb : List Need → List ℕ → List ℕ → List ℕ → ℕ → ℕ → Bool
@@ -79,7 +79,7 @@ seated-by needs t words places count h =
 
 -- the seat of job i is one of eight places of one of 64 slots
 abbrev pub seatInb : Seats → ℕ → Bool
-seatInb seats i = ltb (at (seats .slots) i) maxLimit && ltb (at (seats .places) i) 8
+seatInb seats i = ltb (at (seats .slots) i) maxLimit && ltb (at (seats .places) i) maxWidth
 
 -- the test of eight seats
 unfoldable pub seatsb : List Need → Seats → ℕ → Bool

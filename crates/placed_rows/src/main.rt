@@ -11,7 +11,7 @@ use slotboards::JobRecord;
 ghost use mathlib.Core.Path.{_≡_};
 ghost use mathlib.Core.List.{[]};
 ghost use Prim.Native.Nat.{_<_};
-ghost use Rattle.rules.specs.Sizes.{maxLimit, maxJobs};
+ghost use Rattle.rules.specs.Sizes.{maxLimit, maxWidth, maxJobs};
 ghost use Rattle.slotboards.specs.Rows.{RowsSeated, rulesRows};
 ghost use Rattle.placed_rows.specs.Seats.{SeatsIn, seatWords, wordsFrom, placesFrom, rowsFrom};
 ghost use Rattle.placed_rows.specs.Seats.{rowsOf, RowsRuled, SeatsRowed, SeatsRuled};
@@ -55,7 +55,7 @@ fn placed(
 
 // A job gets its seat: the tables have it at a place of a slot, with its givers in the slot before.
 fn seat_job(tables: &mut [u16; TABLES], job: usize, slot: u8, place: u8, before: u16)
-    requires { ⌜ (job < maxJobs) × (slot < maxLimit) × (place < 8) ⌝ }
+    requires { ⌜ (job < maxJobs) × (slot < maxLimit) × (place < maxWidth) ⌝ }
     ensures { λ _. ⌜ now (tables .exit) ≡ seatWords job slot place before (now (tables .entry)) ⌝ }
 {
     let s = wide(slot);
