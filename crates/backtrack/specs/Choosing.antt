@@ -16,10 +16,9 @@ use Rattle.jobset.specs.declared.Set.{Set}
 use Rattle.jobset.specs.Sets.{member, empty, union, size, members}
 use Rattle.jobset.specs.Membership.{member-empty, member-union, in-union, set-ext}
 use Rattle.threes.specs.Threes.{Eight}
-use Rattle.places.specs.declared.Candidates.{Candidates}
 use Rattle.places.specs.Tables.{Tables}
 use Rattle.places.specs.Rows.{byNumber, row-distinct, triedBelow}
-use Rattle.places.specs.Slot.{carried, candidatesAt, nearAt, ableOf, rowAt, fitOf, mostOf, triesAt, in-row-at, candidates-held}
+use Rattle.places.specs.Slot.{Candidates, carried, candidatesAt, nearAt, ableOf, rowAt, fitOf, mostOf, triesAt, in-row-at, candidates-held}
 use Rattle.places.specs.Fit.{members-distinct, fit-least}
 use Rattle.places.specs.OneSet.{ties-at}
 use Rattle.places.specs.Branching.{tied-alone}

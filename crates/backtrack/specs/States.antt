@@ -17,9 +17,8 @@ use Rattle.jobset.specs.Tests.{absent, present}
 use Rattle.bitmap.specs.Marks.{isMarked}
 use Rattle.threes.specs.Threes.{Eight}
 use Rattle.places.specs.Tables.{Tables}
-use Rattle.places.specs.declared.Candidates.{Candidates}
 use Rattle.places.specs.Rows.{chosen-in, picks, in-places, tried-number}
-use Rattle.places.specs.Slot.{carried, candidatesAt, nearAt, ableOf, rowAt, fitOf, mostOf, triesAt, in-row-at, candidates-held}
+use Rattle.places.specs.Slot.{Candidates, carried, candidatesAt, nearAt, ableOf, rowAt, fitOf, mostOf, triesAt, in-row-at, candidates-held}
 use Rattle.places.specs.Model.{noPlan, finished, Tries, doneAfter, key}
 use Rattle.places.specs.Memo.{Explored, atOnce, opening, exploreAll, explored, before, key-slot, base-le}
 use Rattle.places.specs.OneSet.{one-set}

@@ -23,7 +23,7 @@ ghost use mathlib.Core.Bool.{true, false};
 ghost use Prim.Native.Nat.{_-_, _*_, _^_, _<_, _≤_};
 ghost use lib.Dec.{ltb};
 ghost use lib.ListN.{length};
-ghost use Rattle.rules.specs.Sizes.{maxLimit, maxWidth};
+ghost use Rattle.rules.specs.Sizes.{maxLimit, maxWidth, workSize};
 ghost use Rattle.rules.specs.Basics.{at};
 ghost use Rattle.jobset.specs.Sets.{member, isEmpty, isSubset, Subset};
 ghost use Rattle.threes.specs.Threes.{Eight};
@@ -258,7 +258,7 @@ fn pick(tables: &[u16; TABLES], slot: usize, ran: Set, row: &[u8; PLACES], numbe
 
 // The first mark of a row that begins at a byte.
 fn first_mark(byte: u16) -> usize
-    ensures { λ r. ⌜ (r ≡ 8 * byte) × (r < 524288) ⌝ }
+    ensures { λ r. ⌜ (r ≡ 8 * byte) × (r < 8 * workSize) ⌝ }
 {
     8 * (byte as usize)
 }
@@ -396,7 +396,7 @@ fn try_sets(
 }
 
 // The preferred plan from slot `slot` on: whether there is one, and its sets in `path`. All that is due before the slot is done.
-// `dead` has the marks of the states that were found to have none. The first six parameters travel in registers.
+// `dead` has the marks of the states that were found to have none.
 pub fn explore(
     tables: &[u16; TABLES],
     dead: &mut [u8],

@@ -6,6 +6,7 @@ pub mod Searched
 pub mod Others
 pub mod Computed
 pub mod Chains
+pub mod TooMany
 pub mod Cases
 pub mod Extras
 pub mod Implied

@@ -1,6 +1,5 @@
 // What the programs plan, plan_table, check_table, show_table, implied_needs and small_gates do. Each but the last gives the number of the question that
-// said no, as it printed it; 0
-// where none did, or where a file could not be read or written.
+// said no, as it printed it; 0 where none did, or where a file could not be read or written.
 //
 // A job file that fills its buffer is longer than a file may be, and is refused by question 2, whatever follows; a table file that fills its
 // buffer is longer than any table, and is refused by question 14.

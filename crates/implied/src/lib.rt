@@ -1,7 +1,7 @@
 // Needs that follow from others: document 02, request 5.
 //
-// Jobs are counted from 0 here. The takers of each job, and the jobs beyond them, are rows of bits (crate needrows): beyond a job stands
-// where a chain of two needs or more leads from it. So a need follows from others where its taker stands beyond its giver.
+// Jobs are counted from 0 here. The takers of each job, and the jobs beyond them, are rows of bits (crate needrows): beyond a job stand
+// the jobs that a chain of two needs or more leads to. So a need follows from others where its taker stands beyond its giver.
 use jobset::Set;
 use needrows::ROW_BYTES;
 use needrows::ROWS_BYTES;

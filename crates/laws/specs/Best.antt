@@ -193,8 +193,8 @@ pub best-is : (n : ℕ) (needs : List Need) (c L : ℕ) → BestWithin n L (Runs
 best-is n needs c L = best-of n (runsb n needs c) (Runs n needs c) (runs-is n needs c) L
 
 -- a cap that every list within the limit keeps asks nothing
-pub best-uncapped : (n : ℕ) (needs : List Need) (c L : ℕ) → ((u : List ℕ) → Kept (Gives needs) (at u) → Fits n L u → Capped n c u) → best n (runsb n needs c) L
-    ≡ best n (keptb needs) L
+pub best-uncapped : (n : ℕ) (needs : List Need) (c L : ℕ) → ((u : List ℕ) → Kept (Gives needs) (at u) → Fits n L u → Capped n c u)
+    → best n (runsb n needs c) L ≡ best n (keptb needs) L
 best-uncapped n needs c L h = best-same n (runsb n needs c) (keptb needs) L (λ u f. (
   λ t. kept-is needs u .1 (runs-is n needs c u .0 t .kept),
   λ t. let k = kept-is needs u .0 t in runs-is n needs c u .1 record { kept = k; capped = h u k f },

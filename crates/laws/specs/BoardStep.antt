@@ -123,8 +123,8 @@ module _ (n : ℕ) (needs : List Need) (t : List ℕ) (M : ℕ) where
           lowest-now i l e d k (inr q) =
               rw (rest i (apart-from i q)) (lowest-same n needs t (z .1) (set (z .1) x c) i (at (z .1) i) (as-before i l e d k) (m .lowest i l e q k))
 
-          both : (i j : ℕ) → i < n → j < n → at t i ≡ s → at t j ≡ s → (i ≡ x) ⊎ T (D i) → (j ≡ x) ⊎ T (D j) → at (set (z .1) x c) i ≡ at (set (z .1) x c) j → i
-              ≡ j
+          both : (i j : ℕ) → i < n → j < n → at t i ≡ s → at t j ≡ s → (i ≡ x) ⊎ T (D i) → (j ≡ x) ⊎ T (D j) → at (set (z .1) x c) i ≡ at (set (z .1) x c) j
+              → i ≡ j
           both i j l k e f (inl p) (inl q) h = p ∙ sym q
           both i j l k e f (inl p) (inr q) h = absurd (new j k f q (sym (rest j (apart-from j q)) ∙ sym h ∙ here i p))
           both i j l k e f (inr p) (inl q) h = absurd (new i l e p (sym (rest i (apart-from i p)) ∙ h ∙ here j q))

@@ -78,7 +78,7 @@ module _ (s b : ℕ) where
 
 -- ---- the table that the lookup uses
 
--- "it asks 14 (for 1 to 400 jobs), 16 (with 64 for the limit) and 17"
+-- "it asks 14 (for 1 to" 400 "jobs), 16 (with 64 for the limit) and 17"
 pub record Usable (table : List ℕ) (t : Table) : Type 0 where
   pub decodes : decode (λ n. leb 1 n && leb n maxJobs) table ≡ got t
   pub sizes : Sized maxLimit maxBoards t

@@ -96,8 +96,8 @@ module _ (f : JobFile) (ok : Readable f) where
         let w = width (length (f .jobs)) (f .needs) (f .limit) in
         asked-12 free ∙ ask-yes (leb w maxWidth) 12 _ (T-leb w maxWidth .1 narrow)
 
-    found : (o : Option (List ℕ)) (x : Answer Table) → tabled f o ≡ x → best (length (f .jobs)) (runsb (length (f .jobs)) (f .needs) (mostBoards f)) (f .limit)
-        ≡ o → planTable f ≡ x
+    found : (o : Option (List ℕ)) (x : Answer Table) → tabled f o ≡ x
+        → best (length (f .jobs)) (runsb (length (f .jobs)) (f .needs) (mostBoards f)) (f .limit) ≡ o → planTable f ≡ x
     found o x e q = asked-13 ∙ ap (tabled f) q ∙ e
 
     -- the list found is the shortest, and of those the preferred

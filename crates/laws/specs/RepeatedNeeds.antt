@@ -130,8 +130,8 @@ need-read bs a before inside need f e r =
 -- whole fields xs: where they are read, the need that the tag and the value v say is among what they say; behind them that need again or a comment as
 -- long, and any bytes
 module _ (xs zs : List ℕ) (tag : ℕ) (v w : List ℕ) (fields : Fields xs) (need : T (isNeed tag)) (long : T (lengthOk tag (length v)))
-    (taken : (f : JobFile) → readFrom xs 0 noFields ≡ got f → Taken (giverOf tag v) (takerOf tag v) f) (short : length v < 65536) (as-long : length w
-    ≡ length v) where
+    (taken : (f : JobFile) → readFrom xs 0 noFields ≡ got f → Taken (giverOf tag v) (takerOf tag v) f) (short : length v < 65536)
+    (as-long : length w ≡ length v) where
   -- both fields say the same
   behind-same : (f : JobFile) → Taken (giverOf tag v) (takerOf tag v) f → readFrom (field tag v ++ zs) 0 f ≡ readFrom (comment w ++ zs) 0 f
   behind-same f t =

@@ -111,8 +111,8 @@ module _ (bs : List ℕ) where
       let w = row-read pre (rowsBytes rs) r (ok .0) e rows in
       let long : length pre < length bs = longer (ap length e) in
       let p = overFields-step (readRow bs) k bs (length pre) rows long l in
-      let next = rows-read rs (ok .1) (pre ++ rowBytes r) (e ∙ sym (append-assoc pre (rowBytes r) (rowsBytes rs))) (p .0) (rw (← (w .1)) (p .1)) (rows ++ r
-      ∷ []) in
+      let next = rows-read rs (ok .1) (pre ++ rowBytes r) (e ∙ sym (append-assoc pre (rowBytes r) (rowsBytes rs))) (p .0) (rw (← (w .1)) (p .1))
+      (rows ++ r ∷ []) in
       p .2 ∙ joined (p .0) ((rows ++ r ∷ []) ++ rs) (w .0) (w .1) next ∙ ap got (append-assoc rows (r ∷ []) rs)
     where
       longer : length bs ≡ length (pre ++ (rowBytes r ++ rowsBytes rs)) → length pre < length bs

@@ -1,7 +1,7 @@
 -- The tables of places in one array of numbers. Assumes nothing.
 use mathlib.Core.List.{List}
 use mathlib.Core.Path.{_≡_}
-use Prim.Native.Nat.{ℕ, _+_, _*_, _<_}
+use Prim.Native.Nat.{ℕ, _+_, _*_, _/_, _^_, _<_}
 use Rattle.rules.specs.Basics.{at}
 use Rattle.rules.specs.Sizes.{maxLimit, maxWidth}
 use Rattle.jobset.specs.Sets.{setAt}
@@ -44,9 +44,13 @@ threeAt = capAt + 1
 abbrev pub tableWords : ℕ
 tableWords = threeAt + placeSets
 
--- no row of marks begins behind this byte, so that a number of two bytes says where the next one begins
+-- the bytes of the longest row of marks: a mark for each state of so many places
+abbrev pub longestRow : ℕ
+longestRow = 3 ^ maxWidth / 8 + 1
+
+-- the bytes of the rows of all slots: a number of two bytes says where each begins
 abbrev pub marksRoom : ℕ
-marksRoom = 60000
+marksRoom = maxLimit * longestRow
 
 -- the tables of an array
 unfoldable pub tablesIn : List ℕ → Tables

@@ -3,7 +3,7 @@ use mathlib.Core.Path.{_≡_}
 use mathlib.Core.Bool.{true}
 use mathlib.Core.List.{List}
 use mathlib.Core.Option.{none, some}
-use Prim.Native.Nat.{ℕ, _+_, _*_, _≤_, _<_}
+use Prim.Native.Nat.{ℕ, _+_, _≤_, _<_}
 use lib.ListN.{length, replicate}
 use Rattle.rules.specs.Sizes.{maxJobs, maxWidth, maxLimit}
 use Rattle.rules.specs.Basics.{at, tabulate}
@@ -15,7 +15,7 @@ use Rattle.jobset.specs.Sets.{member}
 use Rattle.dominance.specs.Count.{AtLeast}
 use Rattle.places.specs.Windows.{Windows, Room, Leads}
 use Rattle.places.specs.Model.{placed}
-use Rattle.layout.specs.Layout.{capAt, tablesIn}
+use Rattle.layout.specs.Layout.{capAt, tablesIn, marksRoom}
 use Rattle.shortest.specs.Given.{Bounds, Ready}
 use Rattle.shortest.specs.Starts.{planOf, written}
 use Rattle.seats.specs.Order.{placeOf, HasPlaces, seatsBy}
@@ -24,10 +24,6 @@ use Rattle.seats.specs.Filled.{Filled}
 -- each of the places of slot s is one of eight, with a job that an array by job number has
 abbrev pub PlacesIn : List ℕ → ℕ → Set → Type 0
 PlacesIn words s places = (p : ℕ) → member places p ≡ true → (p < maxWidth) × (tablesIn words .who s p < maxJobs)
-
--- no row of marks is longer: the bytes of a bitmap for 64 slots
-abbrev pub bitmapBytes : ℕ
-bitmapBytes = maxLimit * 821
 
 -- what is asked: windows that bound every list, tables of `filled` slots, place and tail of each job in the arrays, and a length `least` that no
 -- list with at most `cap` jobs a slot is below, and that leaves each job room
@@ -47,7 +43,7 @@ pub record Search (W : Windows) (cap filled least limit jobs : ℕ) (words place
   pub tails-are : (i : ℕ) → i < jobs → at tail i ≡ W .θ i
   pub cap-at : at words capAt ≡ cap
   pub low : AtLeast (W .n) (Runs (W .n) (W .needs) cap) least
-  pub bitmap-fits : bitmapBytes ≤ bytes
+  pub bitmap-fits : marksRoom ≤ bytes
   pub path-len : length path ≡ maxLimit
 
 -- the start list of the plan of C slots; the limit stands for a job without a start

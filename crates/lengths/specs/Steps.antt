@@ -21,7 +21,7 @@ use Rattle.places.specs.Windows.{Windows, Seats}
 use Rattle.places.specs.Tables.{Shows}
 use Rattle.places.specs.Slot.{triesAt}
 use Rattle.places.specs.Memo.{Rows, sizedRows, sized-rows, Reached, tries-are-held, cleared-is-find}
-use Rattle.layout.specs.Layout.{marksAt, capAt, tablesIn, marksIn}
+use Rattle.layout.specs.Layout.{marksAt, capAt, tablesIn, marksIn, marksRoom}
 use Rattle.shortest.specs.Given.{Ready}
 use Rattle.shortest.specs.Starts.{planOf, plan-proper}
 use Rattle.shortest.specs.SearchIsBest.{no-length, plan-none, plan-slots, plan-best, plan-written}
@@ -30,7 +30,7 @@ use Rattle.seats.specs.Rows.{bytes-few}
 use Rattle.seats.specs.Filled.{Filled, filled-places, filled-shows, filled-marks, Fitting, Fitted}
 use Rattle.backtrack.specs.Entries.{slotsIn, capIn}
 use Rattle.backtrack.specs.Search.{Searchable, written, exploredIn}
-use Rattle.lengths.specs.Searching.{bitmapBytes, Search, listFound, Found}
+use Rattle.lengths.specs.Searching.{Search, listFound, Found}
 
 -- ---- sets written over a path
 
@@ -117,12 +117,12 @@ module _ (W : Windows) (cap filled least limit jobs : ℕ) (words places tail : 
           record { stay = r .stay; eight = r .eight; row = λ s h. omega (arith, r .row s h, marks s (omega arith), marks (suc s) h) }
 
       -- the bytes of all rows
-      pub bitmap-bytes : at after (marksAt + C) ≤ bitmapBytes
+      pub bitmap-bytes : at after (marksAt + C) ≤ marksRoom
       unfolding marksIn sizedRows
       bitmap-bytes = omega (arith, marks C (omega arith), bytes-few (tablesIn after) C, Q .few)
 
       -- so they can be searched
-      pub searchable : (room : ℕ) → bitmapBytes ≤ room → Searchable after room
+      pub searchable : (room : ℕ) → marksRoom ≤ room → Searchable after room
       unfolding marksIn
       searchable room h = record {
         few = omega (arith, Q .few, F .slots-at);
@@ -147,7 +147,7 @@ module _ (W : Windows) (cap filled least limit jobs : ℕ) (words places tail : 
           (λ i m. absurd (List·Memᴰ·not-nil m))
 
       -- the search finds the plan of the model, whatever the bitmap held
-      module _ (dead : List ℕ) (h : bitmapBytes ≤ length dead) where
+      module _ (dead : List ℕ) (h : marksRoom ≤ length dead) where
         explored-is : exploredIn after 0 empty empty (cleared (at after (marksAt + C)) dead) .plan ≡ planOf (tablesIn after) cap C
         unfolding exploredIn marksIn
         explored-is =

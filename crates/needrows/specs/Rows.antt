@@ -3,6 +3,7 @@ use mathlib.Core.Path.{_≡_}
 use mathlib.Core.List.{List, [], _++_, map}
 use Prim.Native.Nat.{ℕ, zero, suc, _+_, _-_, _*_, _/_, _%_, _<_}
 use lib.ListN.{take, drop}
+use Rattle.rules.specs.Sizes.{maxJobs}
 use Rattle.rules.specs.Basics.{at}
 use Rattle.rules.specs.Needs.{Need, givesb}
 use Rattle.jobset.specs.declared.Set.{Set}
@@ -14,21 +15,21 @@ abbrev pub rowBytes : ℕ
 rowBytes = 56
 
 abbrev pub rowBits : ℕ
-rowBits = 448
+rowBits = 8 * rowBytes
 
 abbrev pub wordBytes : ℕ
 wordBytes = 8
 
 abbrev pub wordBits : ℕ
-wordBits = 64
+wordBits = 8 * wordBytes
 
 -- the bytes of the rows of the most jobs
 abbrev pub rowsSize : ℕ
-rowsSize = 22400
+rowsSize = rowBytes * maxJobs
 
 -- how many words of a row hold the takers among n jobs
 abbrev pub wordsFor : ℕ → ℕ
-wordsFor n = (n + 63) / 64
+wordsFor n = (n + (wordBits - 1)) / wordBits
 
 -- the rows after that of a job is cleared
 unfoldable pub withoutRow : List ℕ → ℕ → List ℕ

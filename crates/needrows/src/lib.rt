@@ -12,9 +12,9 @@ ghost use Rattle.needrows.specs.Rows.{rowBytes, rowBits, wordBytes, word
 // A row has room for MAX_JOBS takers, in whole words.
 pub const ROW_BYTES: usize = 56;
 
-pub const ROW_BITS: usize = 8 * ROW_BYTES;
+const ROW_BITS: usize = 8 * ROW_BYTES;
 
-pub const WORD_BYTES: usize = 8;
+const WORD_BYTES: usize = 8;
 
 pub const WORD_BITS: usize = 8 * WORD_BYTES;
 

@@ -10,7 +10,7 @@ use Rattle.jobset.specs.Sets.{member, minus}
 use Rattle.jobset.specs.Membership.{in-minus}
 use Rattle.jobset.specs.Tests.{absent, present}
 use Rattle.places.specs.Seats.{Apart, On, at-place}
-use Rattle.places.specs.Windows.{Windows, held, hold, in-held, in-hold, Room, Seats, apart-hold}
+use Rattle.places.specs.Windows.{Windows, held, heldBefore, in-held, in-held-before, Room, Seats, apart-hold}
 use Rattle.places.specs.Tables.{Tables, Due, ShowsDue}
 
 -- the set has the places of just the jobs with Q, whichever slot they are of
@@ -31,8 +31,8 @@ module _ (W : Windows) (Z : Seats W) where
   π = Z .place
 
   -- a set of the slot before, without the places that end: of this slot, what was in it
-  pub carried-on : (s : ℕ) (S E : Set) (P : ℕ → Type 0) → On (Z .place) (hold W s) S P → On (Z .place) (hold W s) E (λ i. W .d i ≡ s)
-      → On (Z .place) (held W s) (minus S E) (λ i. List·Memᴰ i (hold W s) × P i)
+  pub carried-on : (s : ℕ) (S E : Set) (P : ℕ → Type 0) → On (Z .place) (heldBefore W s) S P → On (Z .place) (heldBefore W s) E (λ i. W .d i ≡ s)
+      → On (Z .place) (held W s) (minus S E) (λ i. List·Memᴰ i (heldBefore W s) × P i)
   carried-on s S E P a b = record {
     to = λ i m e. let w = in-minus S E (π i) .0 e in let v = stays (π i) (w .0) (w .1) in
         let q : v .0 ≡ i = Z .apart s (v .0) i (v .1) m (v .2) in rw q at (v .3);
@@ -43,18 +43,18 @@ module _ (W : Windows) (Z : Seats W) where
     bound = λ p e. let w = in-minus S E p .0 e in let v = stays p (w .0) (w .1) in (v .0, v .1, v .2);
   }
     where
-      stays : (p : ℕ) → member S p ≡ true → member E p ≡ false → (i : ℕ) × List·Memᴰ i (held W s) × (π i ≡ p) × (List·Memᴰ i (hold W s) × P i)
+      stays : (p : ℕ) → member S p ≡ true → member E p ≡ false → (i : ℕ) × List·Memᴰ i (held W s) × (π i ≡ p) × (List·Memᴰ i (heldBefore W s) × P i)
       stays p u v =
           let w = at-place a p u in
-          let z = in-hold W s (w .0) .0 (w .1) in
+          let z = in-held-before W s (w .0) .0 (w .1) in
           let n : ¬ (W .d (w .0) ≡ s) = λ e. present (member E p) (ap (member E) (sym (w .2)) ∙ b .from (w .0) (w .1) e) v in
           (w .0, in-held W s (w .0) .1 (z .0, omega (arith, z .1), omega (arith, z .2)), w .2, (w .1, w .3))
 
   -- where each job has room in a length: its place stands at the lesser of its deadline and of what its tail leaves
   pub due-shows : (C : ℕ) (A : Tables) → Room W C → ((s : ℕ) → s ≤ C → Gathers (Z .place) (A .due s) (λ i. (i < W .n) × Due W C s i)) → ShowsDue W Z C A
   due-shows C A room g = record {
-    due-is = λ s h. gathered π (hold W s) (A .due s) (Due W C s) (λ i. (i < W .n) × Due W C s i) (apart-hold W Z s)
+    due-is = λ s h. gathered π (heldBefore W s) (A .due s) (Due W C s) (λ i. (i < W .n) × Due W C s i) (apart-hold W Z s)
         (λ i w. let a = room .holds i (w .0) in let b = room .behind i (w .0) in
-        (in-hold W s i .1 (w .0, ⊎-elim (λ e. omega arith) (λ e. omega arith) (w .1 .0), w .1 .1), w .1))
-        (λ i m d. (in-hold W s i .0 m .0, d)) (g s h);
+        (in-held-before W s i .1 (w .0, ⊎-elim (λ e. omega arith) (λ e. omega arith) (w .1 .0), w .1 .1), w .1))
+        (λ i m d. (in-held-before W s i .0 m .0, d)) (g s h);
   }

@@ -79,12 +79,12 @@ pub record Rows (A : Tables) (base : ℕ → ℕ) (slots : ℕ) : Type 0 where
   pub row : (s : ℕ) → s < slots → base s + (threes (before A s) + threes (before A s)) < base (suc s)
 
 -- rows by the places in use, as bytes: each starts so many bytes behind the one before
-unfoldable pub rowBytes : Tables → ℕ → ℕ
-rowBytes A zero = 0
-rowBytes A (suc s) = rowBytes A s + threes (before A s) / 4 + 1
+unfoldable pub rowStart : Tables → ℕ → ℕ
+rowStart A zero = 0
+rowStart A (suc s) = rowStart A s + threes (before A s) / 4 + 1
 
 unfoldable pub sizedRows : Tables → ℕ → ℕ
-sizedRows A s = 8 * rowBytes A s
+sizedRows A s = 8 * rowStart A s
 
 -- a set within another has no greater sum
 threes-mono : (k : ℕ) (S R : Set) → Subset S R → threesTo k S ≤ threesTo k R
@@ -120,7 +120,7 @@ module _ (W : Windows) (Z : Seats W) (limit : ℕ) (A : Tables) (sh : Shows W Z 
   shows-eight s h p m = let v = sh .held-is s (omega arith) .bound p m in omega (arith, Z .low s (v .0) (v .1), v .2)
 
   pub sized-rows : Rows A (sizedRows A) slots
-  unfolding sizedRows rowBytes
+  unfolding sizedRows rowStart
   sized-rows = record { stay = shows-stay; eight = shows-eight; row = λ s h. omega arith }
 
 -- ---- the states that a search reaches, and their keys
@@ -321,6 +321,6 @@ module _ (A : Tables) (base : ℕ → ℕ) (tries : Tries) (slots : ℕ) (rows :
   }
 
   -- the search of one length gives its plan, whatever the bitmap held before it was cleared
-  pub cleared-is-find : (n : ℕ) (dead : List ℕ) → n ≤ length dead → base slots ≤ 8 * n → explored A base tries slots 0 empty empty (cleared n dead) .plan
-      ≡ find A tries slots 0 empty empty
+  pub cleared-is-find : (n : ℕ) (dead : List ℕ) → n ≤ length dead → base slots ≤ 8 * n
+      → explored A base tries slots 0 empty empty (cleared n dead) .plan ≡ find A tries slots 0 empty empty
   cleared-is-find n dead l h = explored-is-find slots 0 empty empty (cleared n dead) reached-start (sound-cleared n dead l h) .same

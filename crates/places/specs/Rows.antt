@@ -246,8 +246,8 @@ unfolding chosen choose
 chosen-all [] x e = (λ k l. absurd (omega arith), refl)
 chosen-all (q ∷ row) x e = go (member x (length row)) refl e (chosen-all row x)
   where
-    bits : ((k : ℕ) → k < length row → member x k ≡ true) → member x (length row) ≡ true → (k : ℕ) → k < suc (length row) → Dec (k ≡ length row) → member x k
-        ≡ true
+    bits : ((k : ℕ) → k < length row → member x k ≡ true) → member x (length row) ≡ true → (k : ℕ) → k < suc (length row) → Dec (k ≡ length row)
+        → member x k ≡ true
     bits f m k l (yes z) = rw z m
     bits f m k l (no z) = f k (omega arith)
 
@@ -474,8 +474,8 @@ module _ (near : ℕ → Set) (row : List ℕ) (most : ℕ) where
       go : Dec (n ≡ b) → (n < b → isTry near most (picks row n) ≡ true → ((x : ℕ) → x < b → isTry near most (picks row x) ≡ true → x ≡ n)
           → triedBelow near row most b ≡ placesOf (picks row n) ∷ [])
           → (((x : ℕ) → x < b → isTry near most (picks row x) ≡ true → ⊥) → triedBelow near row most b ≡ [])
-          → choose (isTry near most (picks row b)) (placesOf (picks row b) ∷ triedBelow near row most b) (triedBelow near row most b) ≡ placesOf (picks row n)
-          ∷ []
+          → choose (isTry near most (picks row b)) (placesOf (picks row b) ∷ triedBelow near row most b) (triedBelow near row most b) ≡ placesOf (picks row n) ∷
+          []
       go (yes z) r s =
           let t : isTry near most (picks row b) ≡ true = ap (λ (k : ℕ). isTry near most (picks row k)) (sym z) ∙ e in
           rw (t, s (λ x k p. omega (arith, f x (omega arith) p)), z) refl

@@ -14,36 +14,41 @@ use Rattle.jobset.specs.declared.Set.{Set}
 use Rattle.jobset.specs.Sets.{member, empty, with, union, minus, intersection, isSubset, isEmpty, isOne, size, members, Subset}
 use Rattle.jobset.specs.Membership.{member-empty, member-with, member-union, in-union, in-minus}
 use Rattle.jobset.specs.Members.{in-members}
-use Rattle.places.specs.declared.Candidates.{Candidates}
 use Rattle.places.specs.Tables.{Tables}
 use Rattle.places.specs.Rows.{byNumber, in-row, chosen-in, in-places, picks, triedBelow, tried-number}
 
--- ---- the candidates, `done` having run before the slot and `last` in the slot before; givers, done and last are places of the slot before
+-- the candidates of a slot: forced and tied are places of the slot, tying are places of the slot before
+pub record Candidates : Type 0 where
+  pub forced : Set
+  pub tied : Set
+  pub tying : Set
+
+-- ---- the candidates, `done` being done before the slot, and `ran` what ran in the slot before; givers, done and ran are places of the slot before
 
 -- the givers are done, and none of them ran in the slot before
 unfoldable pub isForced : Set → Set → Set → Bool
-isForced done last givers = isSubset givers done && isEmpty (intersection givers last)
+isForced done ran givers = isSubset givers done && isEmpty (intersection givers ran)
 
 -- the givers are done, and exactly one of them ran in the slot before
 unfoldable pub isTied : Set → Set → Set → Bool
-isTied done last givers = isSubset givers done && isOne (intersection givers last)
+isTied done ran givers = isSubset givers done && isOne (intersection givers ran)
 
--- one more job, with its givers: a candidate if forced or tied; the giver that a tied one has in the slot before is tying
-unfoldable pub sortJob : Set → Set → ℕ → Set → Candidates → Candidates
-sortJob done last i givers c =
-    choose (isForced done last givers) (record { forced = with (c .forced) i; tied = c .tied; tying = c .tying })
-    (choose (isTied done last givers) (record { forced = c .forced; tied = with (c .tied) i; tying = union (c .tying) (intersection givers last) }) c)
+-- one more place, with its givers: a candidate if forced or tied; the giver that a tied one has in the slot before is tying
+unfoldable pub sortPlace : Set → Set → ℕ → Set → Candidates → Candidates
+sortPlace done ran i givers c =
+    choose (isForced done ran givers) (record { forced = with (c .forced) i; tied = c .tied; tying = c .tying })
+    (choose (isTied done ran givers) (record { forced = c .forced; tied = with (c .tied) i; tying = union (c .tying) (intersection givers ran) }) c)
 
-unfoldable pub sortJobs : (ℕ → Set) → Set → Set → Candidates → List ℕ → Candidates
-sortJobs givers done last c [] = c
-sortJobs givers done last c (i ∷ is) = sortJobs givers done last (sortJob done last i (givers i) c) is
+unfoldable pub sortPlaces : (ℕ → Set) → Set → Set → Candidates → List ℕ → Candidates
+sortPlaces givers done ran c [] = c
+sortPlaces givers done ran c (i ∷ is) = sortPlaces givers done ran (sortPlace done ran i (givers i) c) is
 
 abbrev pub noCandidates : Candidates
 noCandidates = record { forced = empty; tied = empty; tying = empty }
 
--- the candidates among the jobs `free`
+-- the candidates among the places `free`
 unfoldable pub candidatesOf : (ℕ → Set) → Set → Set → Set → Candidates
-candidatesOf givers free done last = sortJobs givers done last noCandidates (members free)
+candidatesOf givers free done ran = sortPlaces givers done ran noCandidates (members free)
 
 -- what is done of the places of slot s, before it: those of the slot before, without what has left
 unfoldable pub carried : Tables → ℕ → Set → Set
@@ -84,57 +89,57 @@ triesAt A cap s done ran =
 -- ---- the candidates by membership
 
 -- no set is both empty and of one member
-forced-not-tied : (done last givers : Set) → isForced done last givers ≡ true → isTied done last givers ≡ false
+forced-not-tied : (done ran givers : Set) → isForced done ran givers ≡ true → isTied done ran givers ≡ false
 unfolding isForced isTied isOne choose
-forced-not-tied done last givers h = let w = and-eq-true-iff (isSubset givers done) (isEmpty (intersection givers last)) .0 h in rw (w .0, w .1)
+forced-not-tied done ran givers h = let w = and-eq-true-iff (isSubset givers done) (isEmpty (intersection givers ran)) .0 h in rw (w .0, w .1)
 
-module _ (done last : Set) where
-  -- what one more job adds to each of the three sets
-  sort-forced : (i : ℕ) (g : Set) (c : Candidates) (x : ℕ) → member (sortJob done last i g c .forced) x
-      ≡ (member (c .forced) x || (isForced done last g && eqb x i))
-  unfolding sortJob choose
-  sort-forced i g c x = go (isForced done last g) refl (isTied done last g) refl
+module _ (done ran : Set) where
+  -- what one more place adds to each of the three sets
+  sort-forced : (i : ℕ) (g : Set) (c : Candidates) (x : ℕ) → member (sortPlace done ran i g c .forced) x
+      ≡ (member (c .forced) x || (isForced done ran g && eqb x i))
+  unfolding sortPlace choose
+  sort-forced i g c x = go (isForced done ran g) refl (isTied done ran g) refl
     where
-      go : (f : Bool) → isForced done last g ≡ f → (t : Bool) → isTied done last g ≡ t → member (sortJob done last i g c .forced) x
+      go : (f : Bool) → isForced done ran g ≡ f → (t : Bool) → isTied done ran g ≡ t → member (sortPlace done ran i g c .forced) x
           ≡ (member (c .forced) x || (f && eqb x i))
       go true e t q = rw (e) (member-with (c .forced) i x)
       go false e true q = rw (e, q, or-false)
       go false e false q = rw (e, q, or-false)
 
-  sort-tied : (i : ℕ) (g : Set) (c : Candidates) (x : ℕ) → member (sortJob done last i g c .tied) x ≡ (member (c .tied) x || (isTied done last g && eqb x i))
-  unfolding sortJob choose
-  sort-tied i g c x = go (isForced done last g) refl (isTied done last g) refl
+  sort-tied : (i : ℕ) (g : Set) (c : Candidates) (x : ℕ) → member (sortPlace done ran i g c .tied) x ≡ (member (c .tied) x || (isTied done ran g && eqb x i))
+  unfolding sortPlace choose
+  sort-tied i g c x = go (isForced done ran g) refl (isTied done ran g) refl
     where
-      go : (f : Bool) → isForced done last g ≡ f → (t : Bool) → isTied done last g ≡ t → member (sortJob done last i g c .tied) x
+      go : (f : Bool) → isForced done ran g ≡ f → (t : Bool) → isTied done ran g ≡ t → member (sortPlace done ran i g c .tied) x
           ≡ (member (c .tied) x || (t && eqb x i))
-      go true e true q = absurd (false≢true (sym (forced-not-tied done last g e) ∙ q))
+      go true e true q = absurd (false≢true (sym (forced-not-tied done ran g e) ∙ q))
       go true e false q = rw (e, or-false)
       go false e true q = rw (e, q) (member-with (c .tied) i x)
       go false e false q = rw (e, q, or-false)
 
-  sort-tying : (i : ℕ) (g : Set) (c : Candidates) (x : ℕ) → member (sortJob done last i g c .tying) x
-      ≡ (member (c .tying) x || (isTied done last g && member (intersection g last) x))
-  unfolding sortJob choose
-  sort-tying i g c x = go (isForced done last g) refl (isTied done last g) refl
+  sort-tying : (i : ℕ) (g : Set) (c : Candidates) (x : ℕ) → member (sortPlace done ran i g c .tying) x
+      ≡ (member (c .tying) x || (isTied done ran g && member (intersection g ran) x))
+  unfolding sortPlace choose
+  sort-tying i g c x = go (isForced done ran g) refl (isTied done ran g) refl
     where
-      go : (f : Bool) → isForced done last g ≡ f → (t : Bool) → isTied done last g ≡ t
-          → member (sortJob done last i g c .tying) x ≡ (member (c .tying) x || (t && member (intersection g last) x))
-      go true e true q = absurd (false≢true (sym (forced-not-tied done last g e) ∙ q))
+      go : (f : Bool) → isForced done ran g ≡ f → (t : Bool) → isTied done ran g ≡ t
+          → member (sortPlace done ran i g c .tying) x ≡ (member (c .tying) x || (t && member (intersection g ran) x))
+      go true e true q = absurd (false≢true (sym (forced-not-tied done ran g e) ∙ q))
       go true e false q = rw (e, or-false)
-      go false e true q = rw (e, q) (member-union (c .tying) (intersection g last) x)
+      go false e true q = rw (e, q) (member-union (c .tying) (intersection g ran) x)
       go false e false q = rw (e, q, or-false)
 
-  -- so for all jobs: `part` is one of the three sets, `adds i g x` whether job i with givers g puts x into it
+  -- so for all places: `part` is one of the three sets, `adds i g x` whether place i with givers g puts x into it
   module _ (givers : ℕ → Set) (part : Candidates → Set) (adds : ℕ → Set → ℕ → Bool)
-      (law : (i : ℕ) (g : Set) (c : Candidates) (x : ℕ) → member (part (sortJob done last i g c)) x ≡ (member (part c) x || adds i g x)) where
-    sorted : (is : List ℕ) (c : Candidates) (x : ℕ) → member (part (sortJobs givers done last c is)) x
+      (law : (i : ℕ) (g : Set) (c : Candidates) (x : ℕ) → member (part (sortPlace done ran i g c)) x ≡ (member (part c) x || adds i g x)) where
+    sorted : (is : List ℕ) (c : Candidates) (x : ℕ) → member (part (sortPlaces givers done ran c is)) x
         ≡ (member (part c) x || any (λ i. adds i (givers i) x) is)
-    unfolding sortJobs any
+    unfolding sortPlaces any
     sorted [] c x = rw (or-false)
-    sorted (i ∷ is) c x = rw (sorted is (sortJob done last i (givers i) c) x, law i (givers i) c x, or-assoc)
+    sorted (i ∷ is) c x = rw (sorted is (sortPlace done ran i (givers i) c) x, law i (givers i) c x, or-assoc)
 
     in-sorted : (free : Set) (x : ℕ) → member (part noCandidates) x ≡ false
-        → (member (part (candidatesOf givers free done last)) x ≡ true) ↔ ((i : ℕ) × ((i < 64) × (member free i ≡ true)) × (adds i (givers i) x ≡ true))
+        → (member (part (candidatesOf givers free done ran)) x ≡ true) ↔ ((i : ℕ) × ((i < 64) × (member free i ≡ true)) × (adds i (givers i) x ≡ true))
     unfolding candidatesOf
     in-sorted free x e = rw (sorted (members free) noCandidates x, e) (
       λ h. let w = T-any (λ i. adds i (givers i) x) (members free) .0 (T-true (any (λ i. adds i (givers i) x) (members free)) .1 h) in
@@ -144,7 +149,7 @@ module _ (done last : Set) where
     )
 
   module _ (givers : ℕ → Set) (free : Set) where
-    -- the job i that puts x into a set is x itself
+    -- the place i that puts x into a set is x itself
     itself : (test : Set → Bool) (x : ℕ) → ((i : ℕ) × ((i < 64) × (member free i ≡ true)) × ((test (givers i) && eqb x i) ≡ true))
         ↔ ((x < 64) × (member free x ≡ true) × (test (givers x) ≡ true))
     itself test x = (
@@ -153,38 +158,38 @@ module _ (done last : Set) where
       λ h. (x, (h .0, h .1), and-eq-true-iff (test (givers x)) (eqb x x) .1 (h .2, eq-eqb x x refl)),
     )
 
-    -- the forced jobs: free, with all givers done and none in the slot before
-    pub in-forced : (x : ℕ) → (member (candidatesOf givers free done last .forced) x ≡ true)
-        ↔ ((x < 64) × (member free x ≡ true) × (isForced done last (givers x) ≡ true))
-    in-forced x = Iff·trans (in-sorted givers (λ c. c .forced) (λ i g x. isForced done last g && eqb x i) sort-forced free x (member-empty x))
-        (itself (isForced done last) x)
+    -- the forced places: free, with all givers done and none in the slot before
+    pub in-forced : (x : ℕ) → (member (candidatesOf givers free done ran .forced) x ≡ true)
+        ↔ ((x < 64) × (member free x ≡ true) × (isForced done ran (givers x) ≡ true))
+    in-forced x = Iff·trans (in-sorted givers (λ c. c .forced) (λ i g x. isForced done ran g && eqb x i) sort-forced free x (member-empty x))
+        (itself (isForced done ran) x)
 
-    -- the tied jobs: free, with all givers done and exactly one in the slot before
-    pub in-tied : (x : ℕ) → (member (candidatesOf givers free done last .tied) x ≡ true)
-        ↔ ((x < 64) × (member free x ≡ true) × (isTied done last (givers x) ≡ true))
-    in-tied x = Iff·trans (in-sorted givers (λ c. c .tied) (λ i g x. isTied done last g && eqb x i) sort-tied free x (member-empty x))
-        (itself (isTied done last) x)
+    -- the tied places: free, with all givers done and exactly one in the slot before
+    pub in-tied : (x : ℕ) → (member (candidatesOf givers free done ran .tied) x ≡ true)
+        ↔ ((x < 64) × (member free x ≡ true) × (isTied done ran (givers x) ≡ true))
+    in-tied x = Iff·trans (in-sorted givers (λ c. c .tied) (λ i g x. isTied done ran g && eqb x i) sort-tied free x (member-empty x))
+        (itself (isTied done ran) x)
 
-    -- the tying jobs: the givers in the slot before of the tied ones
+    -- the tying places: the givers in the slot before of the tied ones
     pub record Tying (x : ℕ) : Type 0 where
       pub taker : ℕ
       pub below-64 : taker < 64
       pub is-free : member free taker ≡ true
-      pub is-tied : isTied done last (givers taker) ≡ true
-      pub is-giver : member (intersection (givers taker) last) x ≡ true
+      pub is-tied : isTied done ran (givers taker) ≡ true
+      pub is-giver : member (intersection (givers taker) ran) x ≡ true
 
-    pub in-tying : (x : ℕ) → (member (candidatesOf givers free done last .tying) x ≡ true) ↔ Tying x
+    pub in-tying : (x : ℕ) → (member (candidatesOf givers free done ran .tying) x ≡ true) ↔ Tying x
     in-tying x = (
       λ h. let w = sums .0 h in
-          let v = and-eq-true-iff (isTied done last (givers (w .0))) (member (intersection (givers (w .0)) last) x) .0 (w .2) in
+          let v = and-eq-true-iff (isTied done ran (givers (w .0))) (member (intersection (givers (w .0)) ran) x) .0 (w .2) in
           record { taker = w .0; below-64 = w .1 .0; is-free = w .1 .1; is-tied = v .0; is-giver = v .1 },
-      λ t. let v = and-eq-true-iff (isTied done last (givers (t .taker))) (member (intersection (givers (t .taker)) last) x) .1 (t .is-tied, t .is-giver) in
+      λ t. let v = and-eq-true-iff (isTied done ran (givers (t .taker))) (member (intersection (givers (t .taker)) ran) x) .1 (t .is-tied, t .is-giver) in
           sums .1 (t .taker, (t .below-64, t .is-free), v),
     )
       where
-        sums : (member (candidatesOf givers free done last .tying) x ≡ true)
-            ↔ ((i : ℕ) × ((i < 64) × (member free i ≡ true)) × ((isTied done last (givers i) && member (intersection (givers i) last) x) ≡ true))
-        sums = in-sorted givers (λ c. c .tying) (λ i g x. isTied done last g && member (intersection g last) x) sort-tying free x (member-empty x)
+        sums : (member (candidatesOf givers free done ran .tying) x ≡ true)
+            ↔ ((i : ℕ) × ((i < 64) × (member free i ≡ true)) × ((isTied done ran (givers i) && member (intersection (givers i) ran) x) ≡ true))
+        sums = in-sorted givers (λ c. c .tying) (λ i g x. isTied done ran g && member (intersection g ran) x) sort-tying free x (member-empty x)
 
 -- both are among the places of the slot
 pub candidates-held : (A : Tables) (s : ℕ) (done ran : Set) (p : ℕ) → (member (candidatesAt A s done ran .forced) p ≡ true)

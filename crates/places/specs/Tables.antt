@@ -10,7 +10,7 @@ use Rattle.rules.specs.Needs.{Gives}
 use Rattle.laws.specs.Tests.{T-eqb, by-choice}
 use Rattle.jobset.specs.declared.Set.{Set}
 use Rattle.places.specs.Seats.{Apart, On}
-use Rattle.places.specs.Windows.{Windows, held, hold, Seats}
+use Rattle.places.specs.Windows.{Windows, held, heldBefore, Seats}
 
 -- `held s`: the places of slot s
 -- `ends s`: the places of the slot before s whose windows end with it
@@ -32,13 +32,13 @@ Due W C s i = ((W .d i ≡ s) ⊎ (s + W .θ i ≡ C)) × (s ≤ W .d i) × (s +
 
 pub record Shows (W : Windows) (Z : Seats W) (limit : ℕ) (A : Tables) : Type 0 where
   pub held-is : (s : ℕ) → s < limit → On (Z .place) (held W s) (A .held s) (λ i. Unit {0})
-  pub ends-is : (s : ℕ) → s < limit → On (Z .place) (hold W s) (A .ends s) (λ i. W .d i ≡ s)
-  pub prev-is : (s i : ℕ) → s < limit → List·Memᴰ i (held W s) → On (Z .place) (hold W s) (A .prev s (Z .place i)) (λ g. Gives (W .needs) g i)
+  pub ends-is : (s : ℕ) → s < limit → On (Z .place) (heldBefore W s) (A .ends s) (λ i. W .d i ≡ s)
+  pub prev-is : (s i : ℕ) → s < limit → List·Memᴰ i (held W s) → On (Z .place) (heldBefore W s) (A .prev s (Z .place i)) (λ g. Gives (W .needs) g i)
   pub who-is : (s i : ℕ) → s < limit → List·Memᴰ i (held W s) → A .who s (Z .place i) ≡ i
 
 -- and of `due`, in a search of C slots: a table is made for one C alone
 pub record ShowsDue (W : Windows) (Z : Seats W) (C : ℕ) (A : Tables) : Type 0 where
-  pub due-is : (s : ℕ) → s ≤ C → On (Z .place) (hold W s) (A .due s) (Due W C s)
+  pub due-is : (s : ℕ) → s ≤ C → On (Z .place) (heldBefore W s) (A .due s) (Due W C s)
 
 -- ---- tables by their definitions
 

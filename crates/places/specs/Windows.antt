@@ -32,9 +32,9 @@ abbrev pub held : Windows → ℕ → List ℕ
 held W s = passing (holdsSlot W s) (W .n)
 
 -- the jobs of the slot before s, none before slot 0
-abbrev pub hold : Windows → ℕ → List ℕ
-hold W zero = []
-hold W (suc s) = held W s
+abbrev pub heldBefore : Windows → ℕ → List ℕ
+heldBefore W zero = []
+heldBefore W (suc s) = held W s
 
 pub in-held : (W : Windows) (s i : ℕ) → List·Memᴰ i (held W s) ↔ ((i < W .n) × (W .r i ≤ s) × (s < W .d i))
 unfolding holdsSlot
@@ -44,9 +44,9 @@ in-held W s i =
       λ h. w .1 (h .0, simp tests (h .1, h .2)),
     )
 
-pub in-hold : (W : Windows) (s i : ℕ) → List·Memᴰ i (hold W s) ↔ ((i < W .n) × (W .r i < s) × (s ≤ W .d i))
-in-hold W zero i = (λ m. absurd (List·Memᴰ·not-nil m), λ h. absurd (omega (arith, h .1)))
-in-hold W (suc s) i = let w = in-held W s i in
+pub in-held-before : (W : Windows) (s i : ℕ) → List·Memᴰ i (heldBefore W s) ↔ ((i < W .n) × (W .r i < s) × (s ≤ W .d i))
+in-held-before W zero i = (λ m. absurd (List·Memᴰ·not-nil m), λ h. absurd (omega (arith, h .1)))
+in-held-before W (suc s) i = let w = in-held W s i in
     (λ m. let v = w .0 m in (v .0, omega (arith, v .1), omega (arith, v .2)), λ h. w .1 (h .0, omega (arith, h .1), omega (arith, h .2)))
 
 pub held-rising : (W : Windows) (s : ℕ) → Rising (held W s)
@@ -69,11 +69,11 @@ pub record Seats (W : Windows) : Type 0 where
   pub low : (s i : ℕ) → List·Memᴰ i (held W s) → place i < maxWidth
   pub apart : (s : ℕ) → Apart place (held W s)
 
-pub low-hold : (W : Windows) (Z : Seats W) (s i : ℕ) → List·Memᴰ i (hold W s) → Z .place i < maxWidth
-low-hold W Z zero i m = absurd (List·Memᴰ·not-nil m)
-low-hold W Z (suc s) i m = Z .low s i m
+pub low-held-before : (W : Windows) (Z : Seats W) (s i : ℕ) → List·Memᴰ i (heldBefore W s) → Z .place i < maxWidth
+low-held-before W Z zero i m = absurd (List·Memᴰ·not-nil m)
+low-held-before W Z (suc s) i m = Z .low s i m
 
-pub apart-hold : (W : Windows) (Z : Seats W) (s : ℕ) → Apart (Z .place) (hold W s)
+pub apart-hold : (W : Windows) (Z : Seats W) (s : ℕ) → Apart (Z .place) (heldBefore W s)
 apart-hold W Z zero = λ i j m k e. absurd (List·Memᴰ·not-nil m)
 apart-hold W Z (suc s) = Z .apart s
 
@@ -91,9 +91,9 @@ module _ (W : Windows) (D : Leads W) (s i : ℕ) (m : List·Memᴰ i (held W s))
   giver-released = omega (arith, D .sooner g i a, in-held W s i .0 m .2, in-held W s i .0 m .1)
 
   -- one that the slot before does not hold has its window closed before that slot
-  pub giver-closed : ¬ (List·Memᴰ g (hold W s)) → W .d g < s
+  pub giver-closed : ¬ (List·Memᴰ g (heldBefore W s)) → W .d g < s
   giver-closed n = go (decLt (W .d g) s)
     where
       go : Dec (W .d g < s) → W .d g < s
       go (yes l) = l
-      go (no l) = absurd (n (in-hold W s g .1 (D .needs-in g i a .0, giver-released, omega arith)))
+      go (no l) = absurd (n (in-held-before W s g .1 (D .needs-in g i a .0, giver-released, omega arith)))

@@ -46,7 +46,7 @@ use Rattle.lengths.specs.Searching.{Search, Found}
 use Rattle.bitmap.specs.Marks.{cleared as zeroed}
 use Rattle.planner.specs.declared.Planned.the-variants as made
 use Rattle.planner.specs.declared.Planned.{Planned}
-use Rattle.planner.specs.Planner.{outcomeOf, Answers, firstLength, JobsRead, LevelsRead, PlanRead}
+use Rattle.planner.specs.Planner.{outcomeOf, Answers, firstLength, JobsRead, WindowsRead, PlanRead}
 use Rattle.planner.specs.Tabled.{answers-refused, tabled-is}
 
 -- n divided by c, rounded up, is no more than s where n is no more than s times c
@@ -119,10 +119,10 @@ module _ {bs : List ℕ} {n L : ℕ} {o rows : List ℕ} (j : JobsRead bs n L o 
     order-of = record { of-needs = of-needs; sorted = peeled .sorted yes-ok }
 
     -- and releases and tails are read
-    pub levels-read : (b : ℕ) (tails : List ℕ) → b ≡ mostBoards (j .file)
+    pub windows-read : (b : ℕ) (tails : List ℕ) → b ≡ mostBoards (j .file)
         → ((needs : List Need) → NeedsIn n needs → RowsAre rows n needs → (i : ℕ) → i < n → at tails i ≡ tail n needs i)
-        → LevelsRead bs n L b o rows releases tails
-    levels-read b tails e t = record {
+        → WindowsRead bs n L b o rows releases tails
+    windows-read b tails e t = record {
       jobs = j;
       free = T-true _ .1 (sym (peeled .answer) ∙ yes-ok);
       boards-are = e;
@@ -132,7 +132,7 @@ module _ {bs : List ℕ} {n L : ℕ} {o rows : List ℕ} (j : JobsRead bs n L o 
 
 -- ---- questions 12 and 13
 
-module _ {bs : List ℕ} {n L b : ℕ} {o rows releases tails : List ℕ} (l : LevelsRead bs n L b o rows releases tails) where
+module _ {bs : List ℕ} {n L b : ℕ} {o rows releases tails : List ℕ} (l : WindowsRead bs n L b o rows releases tails) where
   -- the file, its needs and its windows
   abbrev f : JobFile
   f = l .jobs .file

@@ -40,7 +40,7 @@ pub record JobsRead (bs : List ℕ) (n L : ℕ) (offsets rows : List ℕ) : Type
   pub held : Held bs file (record { fields = file .fields; limit = L; sockets = file .sockets; jobs = n; offsets = offsets; rows = rows })
 
 -- and it has no circle; b is the most boards, and the arrays have the releases and the tails
-pub record LevelsRead (bs : List ℕ) (n L b : ℕ) (offsets rows releases tails : List ℕ) : Type 0 where
+pub record WindowsRead (bs : List ℕ) (n L b : ℕ) (offsets rows releases tails : List ℕ) : Type 0 where
   pub jobs : JobsRead bs n L offsets rows
   pub free : T (circleFree n (jobs .file .needs))
   pub boards-are : b ≡ mostBoards (jobs .file)

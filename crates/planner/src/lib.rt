@@ -13,7 +13,7 @@ ghost use Prim.Native.Nat.{_≤_, _<_};
 ghost use lib.ListN.{length};
 ghost use Rattle.rules.specs.Sizes.{maxJobs, workSize, tableSize};
 ghost use Rattle.rules.specs.Answers.{plan};
-ghost use Rattle.planner.specs.Planner.{outcomeOf, Answers, firstLength, LevelsRead, PlanRead};
+ghost use Rattle.planner.specs.Planner.{outcomeOf, Answers, firstLength, WindowsRead, PlanRead};
 
 // A table of so many bytes, or the number of the question that said no.
 pub enum Planned {
@@ -51,7 +51,7 @@ fn write_plan(
     Planned::Table(size)
 }
 
-// The first makespan that the search tries: what releases and tails leave, or as many slots as so many jobs take at `cap` a slot.
+// The first length that the search tries: what releases and tails leave, or as many slots as so many jobs take at `cap` a slot.
 fn first_length(least: usize, jobs: usize, cap: u8) -> usize
     requires { ⌜ (0 < cap) × (jobs ≤ maxJobs) ⌝ }
     ensures { λ r. ⌜ r ≡ firstLength least jobs cap ⌝ }
@@ -77,7 +77,7 @@ fn plan_windows(
     table: &mut [u8],
 ) -> Planned
     requires { ⌜ (workSize ≤ length (now work)) × (tableSize ≤ length (now table))
-        × LevelsRead (now file) jobs limit boards (now offsets) (now work) (now release) (now tail) ⌝ }
+        × WindowsRead (now file) jobs limit boards (now offsets) (now work) (now release) (now tail) ⌝ }
     ensures { λ r. ⌜ Answers (now (file .entry)) r (now (table .entry)) (now (table .exit)) ⌝ }
 {
     let mut places = [0; MAX_JOBS];

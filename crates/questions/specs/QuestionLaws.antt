@@ -130,8 +130,8 @@ pub more-taken : (t b : List ℕ) (i : ℕ) (taken : List ℕ) → at t i < maxL
     → Taken t b (i + 1) (set taken (at t i) (with (setAt taken (at t i)) (at b i) .bits))
 more-taken t b i taken h l k = record { size = length-set taken (at t i) _ ∙ k .size; cells = λ s c p q. go s c p q (ℕ-discrete s (at t i)) }
   where
-    go : (s c : ℕ) → s < maxLimit → c < 64 → Dec (s ≡ at t i) → member (setAt (set taken (at t i) (with (setAt taken (at t i)) (at b i) .bits)) s) c
-        ≡ cellTaken t b (i + 1) s c
+    go : (s c : ℕ) → s < maxLimit → c < 64 → Dec (s ≡ at t i)
+        → member (setAt (set taken (at t i) (with (setAt taken (at t i)) (at b i) .bits)) s) c ≡ cellTaken t b (i + 1) s c
     go s c p q (yes e) =
         rw (
           one-taken t b i s c,
@@ -190,8 +190,8 @@ module _ (rows t b : List ℕ) (g w : ℕ) where
   word-last h = rw (words-end rows (length t) g w h) refl
 
 -- by the rows as by the needs
-pub kept-is : (n : ℕ) (needs : List Need) (rows t b : List ℕ) → n ≤ maxJobs → NeedsIn n needs → RowsAre rows n needs → length t ≡ n → rowsKept rows t b
-    ≡ needsKept needs t b
+pub kept-is : (n : ℕ) (needs : List Need) (rows t b : List ℕ) → n ≤ maxJobs → NeedsIn n needs → RowsAre rows n needs → length t ≡ n
+    → rowsKept rows t b ≡ needsKept needs t b
 unfolding rowsKept keptBehind lateEnough needsKept
 kept-is n needs rows t b few needs-in are len = bool-ext (rowsKept rows t b) (needsKept needs t b)
     (λ h. let f = simp tests at h in simp tests (λ d m. let w = needs-in (d .0) (d .1) m in

@@ -1,4 +1,4 @@
--- What a code has gathered, in whatever order: the level behind it is the value of formula (1). Assumes nothing.
+-- What a code has gathered, in whatever order: the slot behind it is the value of formula (1). Assumes nothing.
 use mathlib.Core.Path.{_≡_, refl, sym, ap, _∙_}
 use mathlib.Core.Logic.{_≢_, _⊎_, inl, inr, ⊎-elim, _↔_}
 use mathlib.Core.List.{List, [], _∷_, _++_, List·Memᴰ, List·Memᴰ·head, List·Memᴰ·tail, List·Memᴰ·cases-cons, List·Memᴰ·not-nil}
@@ -13,19 +13,19 @@ use Rattle.laws.specs.Releases.{Case, nobody, single, double, case-release}
 use Rattle.releases.specs.Codes.{raised, behind, raisedOver}
 
 -- the three ways of a code
-pub raised-later : (code level : ℕ) → code / 2 < level → raised code level ≡ 2 * level
+pub raised-later : (code slot : ℕ) → code / 2 < slot → raised code slot ≡ 2 * slot
 unfolding raised choose
-raised-later code level h = rw (lt-ltb (code / 2) level h)
+raised-later code slot h = rw (lt-ltb (code / 2) slot h)
 
-pub raised-again : (code level : ℕ) → code / 2 ≡ level → raised code level ≡ 2 * level + 1
+pub raised-again : (code slot : ℕ) → code / 2 ≡ slot → raised code slot ≡ 2 * slot + 1
 unfolding raised choose
-raised-again code level h = rw (le-ltb (code / 2) level (omega arith), eq-eqb (code / 2) level h)
+raised-again code slot h = rw (le-ltb (code / 2) slot (omega arith), eq-eqb (code / 2) slot h)
 
-pub raised-before : (code level : ℕ) → level < code / 2 → raised code level ≡ code
+pub raised-before : (code slot : ℕ) → slot < code / 2 → raised code slot ≡ code
 unfolding raised choose
-raised-before code level h = rw (le-ltb (code / 2) level (omega arith), ne-eqb (code / 2) level (λ e. omega arith))
+raised-before code slot h = rw (le-ltb (code / 2) slot (omega arith), ne-eqb (code / 2) slot (λ e. omega arith))
 
--- the code has met the level r g + 1 of just the jobs g in S
+-- the code has met the slot r g + 1 of just the jobs g in S
 pub record Gathered (r : ℕ → ℕ) (code : ℕ) (S : ℕ → Type 0) : Type 0 where
   pub bound : (g : ℕ) → S g → r g + 1 ≤ code / 2
   pub found : 0 < code / 2 → (j : ℕ) × S j × (r j + 1 ≡ code / 2)
@@ -41,7 +41,7 @@ gathered-none r S none = record {
   tied = λ e. absurd (omega arith);
 }
 
--- it depends on which jobs they are, and on their levels alone
+-- it depends on which jobs they are, and on their slots alone
 pub gathered-same : (r q : ℕ → ℕ) (code : ℕ) (S U : ℕ → Type 0) → ((g : ℕ) → S g ↔ U g) → ((g : ℕ) → S g → r g ≡ q g) → Gathered r code S → Gathered q code U
 gathered-same r q code S U same value w = record {
   bound = λ g u. let s = same g .1 u in omega (arith, w .bound g s, value g s);
@@ -90,7 +90,7 @@ module _ (r : ℕ → ℕ) (code : ℕ) (S : ℕ → Type 0) (x : ℕ) (new : S 
       go (no l) (yes e) = rw (raised-again code (r x + 1) e) (again e)
       go (no l) (no e) = rw (raised-before code (r x + 1) (omega arith)) (before (omega arith))
 
--- where the jobs are the givers of i, the level behind the code is that of formula (1)
+-- where the jobs are the givers of i, the slot behind the code is that of formula (1)
 pub behind-is : (r : ℕ → ℕ) (code : ℕ) (S : ℕ → Type 0) (needs : List Need) (i : ℕ) → ((g : ℕ) → S g ↔ Gives needs g i) → Gathered r code S
     → behind code ≡ releaseBy r needs i
 behind-is r code S needs i same w = case-release needs r i (behind code) (unfold behind in go (decLt 0 (code / 2)) (ℕ-discrete (code % 2) 0))
@@ -137,7 +137,7 @@ over-behind r xs needs i once same =
     behind-is r (raisedOver r 0 xs) (λ g. ⊥ ⊎ List·Memᴰ g xs) needs i (λ g. (⊎-elim (λ z. absurd z) (same g .0), λ a. inr (same g .1 a)))
     (over-gathered r xs 0 (λ g. ⊥) once (λ x m z. z) (gathered-none r (λ g. ⊥) (λ g z. z)))
 
--- it depends on the levels of these jobs alone
+-- it depends on the slots of these jobs alone
 pub over-same : (r q : ℕ → ℕ) (xs : List ℕ) (code : ℕ) → ((x : ℕ) → List·Memᴰ x xs → r x ≡ q x) → raisedOver r code xs ≡ raisedOver q code xs
 unfolding raisedOver
 over-same r q [] code h = refl
@@ -152,13 +152,13 @@ over-append r [] ys code = refl
 over-append r (x ∷ xs) ys code = over-append r xs ys (raised code (r x + 1))
 
 -- a bound
-pub raised-bound : (code level B : ℕ) → code / 2 ≤ B → level ≤ B → raised code level / 2 ≤ B
-raised-bound code level B c l = go (decLt (code / 2) level) (ℕ-discrete (code / 2) level)
+pub raised-bound : (code slot B : ℕ) → code / 2 ≤ B → slot ≤ B → raised code slot / 2 ≤ B
+raised-bound code slot B c l = go (decLt (code / 2) slot) (ℕ-discrete (code / 2) slot)
   where
-    go : Dec (code / 2 < level) → Dec (code / 2 ≡ level) → raised code level / 2 ≤ B
-    go (yes h) d = rw (raised-later code level h) (omega arith)
-    go (no h) (yes e) = rw (raised-again code level e) (omega arith)
-    go (no h) (no e) = rw (raised-before code level (omega arith)) c
+    go : Dec (code / 2 < slot) → Dec (code / 2 ≡ slot) → raised code slot / 2 ≤ B
+    go (yes h) d = rw (raised-later code slot h) (omega arith)
+    go (no h) (yes e) = rw (raised-again code slot e) (omega arith)
+    go (no h) (no e) = rw (raised-before code slot (omega arith)) c
 
 pub over-bound : (r : ℕ → ℕ) (xs : List ℕ) (code B : ℕ) → code / 2 ≤ B → ((x : ℕ) → List·Memᴰ x xs → r x + 1 ≤ B) → raisedOver r code xs / 2 ≤ B
 unfolding raisedOver

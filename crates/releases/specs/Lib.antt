@@ -1,4 +1,4 @@
--- Definitions: the code of levels (Codes), peeling (Peels), what callers see of the order (Ordered). Laws: what a code has gathered (Gathered),
+-- Definitions: the code of slots (Codes), peeling (Peels), what callers see of the order (Ordered). Laws: what a code has gathered (Gathered),
 -- arrays (Arrays), takers peeled one after the other (Ready), an order with each giver first (Sorted), the invariant of peeling (Peeling), its
 -- start and its end (Ends), the count of the givers (Counted), the tails (Tails), the least makespan (Least). Assumes nothing.
 pub mod Codes

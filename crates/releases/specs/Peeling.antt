@@ -95,12 +95,12 @@ module _ (rows : List ℕ) (n next : ℕ) (s : Peel) (rows-of : RowsOf rows n) (
 -- ---- one job more
 
 module _ (rows : List ℕ) (n next : ℕ) (s : Peel) (rows-of : RowsOf rows n) (w : Peeling rows n next s) (more : next < s .count) where
-  -- the job, its level, its takers, and the state after it
+  -- the job, its slot, its takers, and the state after it
   abbrev job : ℕ
   job = at (s .order) next
 
-  abbrev level : ℕ
-  level = behind (at (s .release) job)
+  abbrev slot : ℕ
+  slot = behind (at (s .release) job)
 
   abbrev takers : List ℕ
   takers = takersOf rows n job
@@ -152,7 +152,7 @@ module _ (rows : List ℕ) (n next : ℕ) (s : Peel) (rows-of : RowsOf rows n) (
   unfolding released
   job-ready = record {
     sized = record {
-      release-size = length-set (s .release) job level ∙ w .sized .release-size;
+      release-size = length-set (s .release) job slot ∙ w .sized .release-size;
       waits-size = w .sized .waits-size;
       order-size = w .sized .order-size;
     };
@@ -168,9 +168,9 @@ module _ (rows : List ℕ) (n next : ℕ) (s : Peel) (rows-of : RowsOf rows n) (
   job-code = gathered-same (at (s .release)) (at (s .release)) (at (s .release) job) _ (Giver rows n job)
       (λ g. (λ h. h .1, λ h. (givers-peeled rows n next s rows-of w job g job-ordered h, h))) (λ g h. refl) (w .code job job-in not-peeled)
 
-  pub level-small : behind (at (s .release) (at (s .order) next)) + 1 ≤ 2 * suc next
+  pub slot-small : behind (at (s .release) (at (s .order) next)) + 1 ≤ 2 * suc next
   unfolding behind
-  level-small = omega (
+  slot-small = omega (
     arith,
     gathered-bound (at (s .release)) (at (s .release) job) (Giver rows n job) (2 * next) job-code
         (λ g a. w .small g (givers-peeled rows n next s rows-of w job g job-ordered a)),
@@ -182,39 +182,39 @@ module _ (rows : List ℕ) (n next : ℕ) (s : Peel) (rows-of : RowsOf rows n) (
   release-other : (k : ℕ) → k ≢ job → ¬ (List·Memᴰ k takers) → at (after .release) k ≡ at (s .release) k
   unfolding peelJob released
   release-other k a b =
-      ap (λ (l : List ℕ). at l k) (release-after (level + 1) takers (released job s))
-      ∙ each-other (λ c. raised c (level + 1)) takers (released job s .release) k b ∙ getD-set-other (s .release) job k level 0 a
+      ap (λ (l : List ℕ). at l k) (release-after (slot + 1) takers (released job s))
+      ∙ each-other (λ c. raised c (slot + 1)) takers (released job s .release) k b ∙ getD-set-other (s .release) job k slot 0 a
 
-  release-job : at (after .release) job ≡ level
+  release-job : at (after .release) job ≡ slot
   unfolding peelJob released
   release-job =
-      ap (λ (l : List ℕ). at l job) (release-after (level + 1) takers (released job s))
-      ∙ each-other (λ c. raised c (level + 1)) takers (released job s .release) job not-own
-      ∙ getD-set-same (s .release) job level 0 (omega (arith, w .sized .release-size, rows-of .jobs-few, job-in))
+      ap (λ (l : List ℕ). at l job) (release-after (slot + 1) takers (released job s))
+      ∙ each-other (λ c. raised c (slot + 1)) takers (released job s .release) job not-own
+      ∙ getD-set-same (s .release) job slot 0 (omega (arith, w .sized .release-size, rows-of .jobs-few, job-in))
 
-  release-taker : (k : ℕ) → List·Memᴰ k takers → at (after .release) k ≡ raised (at (s .release) k) (level + 1)
+  release-taker : (k : ℕ) → List·Memᴰ k takers → at (after .release) k ≡ raised (at (s .release) k) (slot + 1)
   unfolding peelJob released
   release-taker k m =
-      ap (λ (l : List ℕ). at l k) (release-after (level + 1) takers (released job s))
-      ∙ each-at (λ c. raised c (level + 1)) takers (released job s .release) takers-once
-      (λ x v. omega (arith, taker-below x v, rows-of .jobs-few, w .sized .release-size, length-set (s .release) job level)) k m
-      ∙ ap (λ (c : ℕ). raised c (level + 1)) (getD-set-other (s .release) job k level 0 (λ e. not-own (rw e at m)))
+      ap (λ (l : List ℕ). at l k) (release-after (slot + 1) takers (released job s))
+      ∙ each-at (λ c. raised c (slot + 1)) takers (released job s .release) takers-once
+      (λ x v. omega (arith, taker-below x v, rows-of .jobs-few, w .sized .release-size, length-set (s .release) job slot)) k m
+      ∙ ap (λ (c : ℕ). raised c (slot + 1)) (getD-set-other (s .release) job k slot 0 (λ e. not-own (rw e at m)))
 
   waits-other : (k : ℕ) → ¬ (List·Memᴰ k takers) → at (after .waits) k ≡ at (s .waits) k
   unfolding peelJob released
-  waits-other k b = ap (λ (l : List ℕ). at l k) (waits-after (level + 1) takers (released job s)) ∙ each-other (λ c. c - 1) takers (s .waits) k b
+  waits-other k b = ap (λ (l : List ℕ). at l k) (waits-after (slot + 1) takers (released job s)) ∙ each-other (λ c. c - 1) takers (s .waits) k b
 
   waits-taker : (k : ℕ) → List·Memᴰ k takers → at (after .waits) k ≡ at (s .waits) k - 1
   unfolding peelJob released
   waits-taker k m =
-      ap (λ (l : List ℕ). at l k) (waits-after (level + 1) takers (released job s))
+      ap (λ (l : List ℕ). at l k) (waits-after (slot + 1) takers (released job s))
       ∙ each-at (λ c. c - 1) takers (s .waits) takers-once (λ x v. omega (arith, taker-below x v, rows-of .jobs-few, w .sized .waits-size)) k m
 
   -- ---- the order after it
 
   ready-end : Ready n [] after
   unfolding peelJob
-  ready-end = ready-behind n (level + 1) takers [] (released job s) (rw (append-nil takers) job-ready)
+  ready-end = ready-behind n (slot + 1) takers [] (released job s) (rw (append-nil takers) job-ready)
 
   new : List ℕ
   new = entering (s .waits) takers
@@ -228,11 +228,11 @@ module _ (rows : List ℕ) (n next : ℕ) (s : Peel) (rows-of : RowsOf rows n) (
 
   order-all : ordered after ≡ ordered s ++ new
   unfolding peelJob released new
-  order-all = order-after n (level + 1) takers (released job s) job-ready
+  order-all = order-after n (slot + 1) takers (released job s) job-ready
 
   count-more : s .count ≤ after .count
   unfolding peelJob released
-  count-more = count-after (level + 1) takers (released job s)
+  count-more = count-after (slot + 1) takers (released job s)
 
   order-front : take (s .count) (after .order) ≡ ordered s
   order-front =
@@ -359,7 +359,7 @@ module _ (rows : List ℕ) (n next : ℕ) (s : Peel) (rows-of : RowsOf rows n) (
     code = code-step;
     final = final-step;
     small = λ g m.
-        ⊎-elim (λ v. omega (arith, kept g v, w .small g v)) (λ e. omega (arith, ap (at (after .release)) e, release-job, level-small)) (in-done g .0 m);
+        ⊎-elim (λ v. omega (arith, kept g v, w .small g v)) (λ e. omega (arith, ap (at (after .release)) e, release-job, slot-small)) (in-done g .0 m);
     before = λ p g h a. place p g h a (decLt p (s .count));
   }
     where

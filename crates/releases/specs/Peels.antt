@@ -28,13 +28,13 @@ pub record Peel : Type 0 where
 abbrev pub peelOf : List ℕ → List ℕ → List ℕ → ℕ → Peel
 peelOf release waits order count = record { release = release; waits = waits; order = order; count = count }
 
--- a giver of k, of which the level is given, is peeled
+-- a giver of k, of which the slot is given, is peeled
 unfoldable pub peelNeed : ℕ → ℕ → Peel → Peel
-peelNeed level k s =
+peelNeed slot k s =
     let left = at (s .waits) k - 1 in
     let last = eqb left 0 in
     record {
-      release = set (s .release) k (raised (at (s .release) k) level);
+      release = set (s .release) k (raised (at (s .release) k) slot);
       waits = set (s .waits) k left;
       order = choose last (set (s .order) (s .count) k) (s .order);
       count = choose last (s .count + 1) (s .count);
@@ -42,8 +42,8 @@ peelNeed level k s =
 
 -- the same of some takers, one after the other
 unfoldable pub peelAll : ℕ → List ℕ → Peel → Peel
-peelAll level [] s = s
-peelAll level (k ∷ ks) s = peelAll level ks (peelNeed level k s)
+peelAll slot [] s = s
+peelAll slot (k ∷ ks) s = peelAll slot ks (peelNeed slot k s)
 
 -- a job is peeled: its code becomes its release
 unfoldable pub released : ℕ → Peel → Peel

@@ -46,33 +46,33 @@ pub record Ready (n : ℕ) (xs : List ℕ) (s : Peel) : Type 0 where
 -- ---- one taker
 
 -- it was the last giver of k, or not
-pub peel-last : (level k : ℕ) (s : Peel) → at (s .waits) k - 1 ≡ 0
-    → (peelNeed level k s .order ≡ set (s .order) (s .count) k) × (peelNeed level k s .count ≡ s .count + 1)
+pub peel-last : (slot k : ℕ) (s : Peel) → at (s .waits) k - 1 ≡ 0
+    → (peelNeed slot k s .order ≡ set (s .order) (s .count) k) × (peelNeed slot k s .count ≡ s .count + 1)
 unfolding peelNeed choose
-peel-last level k s e = rw (eq-eqb (at (s .waits) k - 1) 0 e) (refl, refl)
+peel-last slot k s e = rw (eq-eqb (at (s .waits) k - 1) 0 e) (refl, refl)
 
-pub peel-waits : (level k : ℕ) (s : Peel) → (at (s .waits) k - 1 ≡ 0 → ⊥)
-    → (peelNeed level k s .order ≡ s .order) × (peelNeed level k s .count ≡ s .count)
+pub peel-waits : (slot k : ℕ) (s : Peel) → (at (s .waits) k - 1 ≡ 0 → ⊥)
+    → (peelNeed slot k s .order ≡ s .order) × (peelNeed slot k s .count ≡ s .count)
 unfolding peelNeed choose
-peel-waits level k s e = rw (ne-eqb (at (s .waits) k - 1) 0 e) (refl, refl)
+peel-waits slot k s e = rw (ne-eqb (at (s .waits) k - 1) 0 e) (refl, refl)
 
-peel-sized : (level k : ℕ) (s : Peel) → Sized s → Sized (peelNeed level k s)
-peel-sized level k s z = record {
+peel-sized : (slot k : ℕ) (s : Peel) → Sized s → Sized (peelNeed slot k s)
+peel-sized slot k s z = record {
   release-size = unfold peelNeed in length-set (s .release) k _ ∙ z .release-size;
   waits-size = unfold peelNeed in length-set (s .waits) k _ ∙ z .waits-size;
   order-size = go (ℕ-discrete (at (s .waits) k - 1) 0);
 }
   where
-    go : Dec (at (s .waits) k - 1 ≡ 0) → length (peelNeed level k s .order) ≡ maxJobs
-    go (yes e) = ap length (peel-last level k s e .0) ∙ length-set (s .order) (s .count) k ∙ z .order-size
-    go (no e) = ap length (peel-waits level k s e .0) ∙ z .order-size
+    go : Dec (at (s .waits) k - 1 ≡ 0) → length (peelNeed slot k s .order) ≡ maxJobs
+    go (yes e) = ap length (peel-last slot k s e .0) ∙ length-set (s .order) (s .count) k ∙ z .order-size
+    go (no e) = ap length (peel-waits slot k s e .0) ∙ z .order-size
 
-module _ (n level k : ℕ) (ks : List ℕ) (s : Peel) (w : Ready n (k ∷ ks) s) where
+module _ (n slot k : ℕ) (ks : List ℕ) (s : Peel) (w : Ready n (k ∷ ks) s) where
   here : List·Memᴰ k (k ∷ ks)
   here = List·Memᴰ·head refl
 
   after : Peel
-  after = peelNeed level k s
+  after = peelNeed slot k s
 
   k-in : k < n
   k-in = w .in-jobs k here
@@ -106,14 +106,14 @@ module _ (n level k : ℕ) (ks : List ℕ) (s : Peel) (w : Ready n (k ∷ ks) s)
       go (yes e) = unfold after in omega (
         arith,
         w .room,
-        peel-last level k s e .1,
+        peel-last slot k s e .1,
         count-one (waitingb (after .waits)) (waitingb (s .waits)) n k k-in (λ t. omega (arith, waiting-is (after .waits) k .0 t, at-k))
             (waiting-is (s .waits) k .1 (w .waiting k here)) (λ i _. same i),
       )
       go (no e) = unfold after in omega (
         arith,
         w .room,
-        peel-waits level k s e .1,
+        peel-waits slot k s e .1,
         count-le (waitingb (after .waits)) (waitingb (s .waits)) n (λ i _ t. fewer i t (ℕ-discrete i k)),
       )
         where
@@ -122,10 +122,10 @@ module _ (n level k : ℕ) (ks : List ℕ) (s : Peel) (w : Ready n (k ∷ ks) s)
           fewer i t (no p) = rw (same i p) at t
 
   -- the takers behind it
-  pub ready-turn : Ready n ks (peelNeed level k s)
+  pub ready-turn : Ready n ks (peelNeed slot k s)
   unfolding after
   ready-turn = record {
-    sized = peel-sized level k s (w .sized);
+    sized = peel-sized slot k s (w .sized);
     jobs-few = w .jobs-few;
     in-jobs = λ j m. w .in-jobs j (List·Memᴰ·tail m);
     waiting = λ j m. omega (arith, w .waiting j (List·Memᴰ·tail m), at-other j (λ e. w .once .0 (rw e at m)));
@@ -135,10 +135,10 @@ module _ (n level k : ℕ) (ks : List ℕ) (s : Peel) (w : Ready n (k ∷ ks) s)
 
 -- ---- several takers
 
-pub peel-append : (level : ℕ) (xs ys : List ℕ) (s : Peel) → peelAll level (xs ++ ys) s ≡ peelAll level ys (peelAll level xs s)
+pub peel-append : (slot : ℕ) (xs ys : List ℕ) (s : Peel) → peelAll slot (xs ++ ys) s ≡ peelAll slot ys (peelAll slot xs s)
 unfolding peelAll
-peel-append level [] ys s = refl
-peel-append level (x ∷ xs) ys s = peel-append level xs ys (peelNeed level x s)
+peel-append slot [] ys s = refl
+peel-append slot (x ∷ xs) ys s = peel-append slot xs ys (peelNeed slot x s)
 
 -- the first of them, and those behind
 pub ready-front : (n : ℕ) (xs ys : List ℕ) (s : Peel) → Ready n (xs ++ ys) s → Ready n xs s
@@ -151,68 +151,68 @@ ready-front n xs ys s w = record {
   room = w .room;
 }
 
-pub ready-behind : (n level : ℕ) (xs ys : List ℕ) (s : Peel) → Ready n (xs ++ ys) s → Ready n ys (peelAll level xs s)
+pub ready-behind : (n slot : ℕ) (xs ys : List ℕ) (s : Peel) → Ready n (xs ++ ys) s → Ready n ys (peelAll slot xs s)
 unfolding peelAll
-ready-behind n level [] ys s w = w
-ready-behind n level (x ∷ xs) ys s w = ready-behind n level xs ys (peelNeed level x s) (ready-turn n level x (xs ++ ys) s w)
+ready-behind n slot [] ys s w = w
+ready-behind n slot (x ∷ xs) ys s w = ready-behind n slot xs ys (peelNeed slot x s) (ready-turn n slot x (xs ++ ys) s w)
 
 -- ---- what they do
 
-pub release-after : (level : ℕ) (xs : List ℕ) (s : Peel) → peelAll level xs s .release ≡ each (λ c. raised c level) xs (s .release)
+pub release-after : (slot : ℕ) (xs : List ℕ) (s : Peel) → peelAll slot xs s .release ≡ each (λ c. raised c slot) xs (s .release)
 unfolding peelAll each peelNeed
-release-after level [] s = refl
-release-after level (x ∷ xs) s = release-after level xs (peelNeed level x s)
+release-after slot [] s = refl
+release-after slot (x ∷ xs) s = release-after slot xs (peelNeed slot x s)
 
-pub waits-after : (level : ℕ) (xs : List ℕ) (s : Peel) → peelAll level xs s .waits ≡ each (λ c. c - 1) xs (s .waits)
+pub waits-after : (slot : ℕ) (xs : List ℕ) (s : Peel) → peelAll slot xs s .waits ≡ each (λ c. c - 1) xs (s .waits)
 unfolding peelAll each peelNeed
-waits-after level [] s = refl
-waits-after level (x ∷ xs) s = waits-after level xs (peelNeed level x s)
+waits-after slot [] s = refl
+waits-after slot (x ∷ xs) s = waits-after slot xs (peelNeed slot x s)
 
 -- those of them whose last giver is peeled enter the order
 abbrev pub entering : List ℕ → List ℕ → List ℕ
 entering waits xs = filter (λ k. eqb (at waits k) 1) xs
 
-order-turn : (n level k : ℕ) (ks : List ℕ) (s : Peel) → Ready n (k ∷ ks) s
-    → take (peelNeed level k s .count) (peelNeed level k s .order) ++ entering (peelNeed level k s .waits) ks
+order-turn : (n slot k : ℕ) (ks : List ℕ) (s : Peel) → Ready n (k ∷ ks) s
+    → take (peelNeed slot k s .count) (peelNeed slot k s .order) ++ entering (peelNeed slot k s .waits) ks
     ≡ take (s .count) (s .order) ++ entering (s .waits) (k ∷ ks)
 unfolding filter after
-order-turn n level k ks s w =
-    ap (λ (r : List ℕ). take (peelNeed level k s .count) (peelNeed level k s .order) ++ r) same ∙ go (ℕ-discrete (at (s .waits) k - 1) 0)
+order-turn n slot k ks s w =
+    ap (λ (r : List ℕ). take (peelNeed slot k s .count) (peelNeed slot k s .order) ++ r) same ∙ go (ℕ-discrete (at (s .waits) k - 1) 0)
   where
     rest : List ℕ
     rest = entering (s .waits) ks
 
-    same : entering (peelNeed level k s .waits) ks ≡ rest
-    same = filter-same _ _ ks (λ j m. ap (λ (x : ℕ). eqb x 1) (at-other n level k ks s w j (λ e. w .once .0 (rw e at m))))
+    same : entering (peelNeed slot k s .waits) ks ≡ rest
+    same = filter-same _ _ ks (λ j m. ap (λ (x : ℕ). eqb x 1) (at-other n slot k ks s w j (λ e. w .once .0 (rw e at m))))
 
     go : Dec (at (s .waits) k - 1 ≡ 0)
-        → take (peelNeed level k s .count) (peelNeed level k s .order) ++ rest ≡ take (s .count) (s .order) ++ choose (eqb (at (s .waits) k) 1) (k ∷ rest) rest
+        → take (peelNeed slot k s .count) (peelNeed slot k s .order) ++ rest ≡ take (s .count) (s .order) ++ choose (eqb (at (s .waits) k) 1) (k ∷ rest) rest
     go (yes e) =
         let v = w .waiting k (List·Memᴰ·head refl) in
-        let p = peel-last level k s e in
+        let p = peel-last slot k s e in
         ap₂ (λ (c : ℕ) (l : List ℕ). take c l ++ rest) (p .1 ∙ add-one (s .count)) (p .0)
-        ∙ ap (λ (l : List ℕ). l ++ rest) (take-suc-set (s .order) (s .count) k (omega (arith, w .sized .order-size, w .jobs-few, ready-count n level k ks s w)))
+        ∙ ap (λ (l : List ℕ). l ++ rest) (take-suc-set (s .order) (s .count) k (omega (arith, w .sized .order-size, w .jobs-few, ready-count n slot k ks s w)))
         ∙ append-assoc (take (s .count) (s .order)) (k ∷ []) rest
         ∙ ap (λ (l : List ℕ). take (s .count) (s .order) ++ l)
         (sym (choose-yes (eqb (at (s .waits) k) 1) (k ∷ rest) rest (T-eqb (at (s .waits) k) 1 .1 (omega arith))))
     go (no e) =
-        let p = peel-waits level k s e in
+        let p = peel-waits slot k s e in
         ap₂ (λ (c : ℕ) (l : List ℕ). take c l ++ rest) (p .1) (p .0)
         ∙ ap (λ (l : List ℕ). take (s .count) (s .order) ++ l)
         (sym (choose-no (eqb (at (s .waits) k) 1) (k ∷ rest) rest (λ t. e (omega (arith, T-eqb (at (s .waits) k) 1 .0 t)))))
 
-pub order-after : (n level : ℕ) (xs : List ℕ) (s : Peel) → Ready n xs s
-    → take (peelAll level xs s .count) (peelAll level xs s .order) ≡ take (s .count) (s .order) ++ entering (s .waits) xs
+pub order-after : (n slot : ℕ) (xs : List ℕ) (s : Peel) → Ready n xs s
+    → take (peelAll slot xs s .count) (peelAll slot xs s .order) ≡ take (s .count) (s .order) ++ entering (s .waits) xs
 unfolding peelAll
-order-after n level [] s w = unfold filter in sym (append-nil (take (s .count) (s .order)))
-order-after n level (x ∷ xs) s w = order-after n level xs (peelNeed level x s) (ready-turn n level x xs s w) ∙ order-turn n level x xs s w
+order-after n slot [] s w = unfold filter in sym (append-nil (take (s .count) (s .order)))
+order-after n slot (x ∷ xs) s w = order-after n slot xs (peelNeed slot x s) (ready-turn n slot x xs s w) ∙ order-turn n slot x xs s w
 
-pub count-after : (level : ℕ) (xs : List ℕ) (s : Peel) → s .count ≤ peelAll level xs s .count
+pub count-after : (slot : ℕ) (xs : List ℕ) (s : Peel) → s .count ≤ peelAll slot xs s .count
 unfolding peelAll
-count-after level [] s = omega arith
-count-after level (x ∷ xs) s = let rest = count-after level xs (peelNeed level x s) in go (ℕ-discrete (at (s .waits) x - 1) 0) rest
+count-after slot [] s = omega arith
+count-after slot (x ∷ xs) s = let rest = count-after slot xs (peelNeed slot x s) in go (ℕ-discrete (at (s .waits) x - 1) 0) rest
   where
-    go : Dec (at (s .waits) x - 1 ≡ 0) → peelNeed level x s .count ≤ peelAll level xs (peelNeed level x s) .count
-        → s .count ≤ peelAll level xs (peelNeed level x s) .count
-    go (yes e) h = omega (arith, peel-last level x s e .1)
-    go (no e) h = omega (arith, peel-waits level x s e .1)
+    go : Dec (at (s .waits) x - 1 ≡ 0) → peelNeed slot x s .count ≤ peelAll slot xs (peelNeed slot x s) .count
+        → s .count ≤ peelAll slot xs (peelNeed slot x s) .count
+    go (yes e) h = omega (arith, peel-last slot x s e .1)
+    go (no e) h = omega (arith, peel-waits slot x s e .1)

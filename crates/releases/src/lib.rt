@@ -4,7 +4,7 @@
 // Where jobs are left over there is a circle. Tails come in the reverse order, each by one pass over the job's takers.
 // Jobs are counted from 0. The needs are rows of takers (crate needrows).
 //
-// A level is gathered as a code: twice the latest that was met, and one more where it was met twice.
+// A slot is gathered as a code: twice the latest that was met, and one more where it was met twice.
 use jobset::Set;
 use needrows::WORD_BITS;
 use needrows::word;
@@ -19,7 +19,7 @@ ghost use Rattle.rules.specs.Basics.{at};
 ghost use Rattle.rules.specs.Needs.{Need, NeedsIn};
 ghost use Rattle.rules.specs.Windows.{tail as tailOf};
 ghost use Rattle.needrows.specs.Rows.{takersOf, RowsAre};
-ghost use Rattle.releases.specs.Codes.{levelBound, raised, behind, raisedOver};
+ghost use Rattle.releases.specs.Codes.{slotBound, raised, behind, raisedOver};
 ghost use Rattle.releases.specs.Peels.{numbered, each, peelOf, peelNeed, peelAll, released, peelJob};
 ghost use Rattle.releases.specs.Ready.{Ready};
 ghost use Rattle.releases.specs.Ordered.{OfNeeds, OrderOf, RowsOf, Peeled};
@@ -28,12 +28,12 @@ ghost use Rattle.releases.specs.Counted.{Countable};
 ghost use Rattle.releases.specs.Tails.{tailOver};
 ghost use Rattle.releases.specs.Least.{leastOf};
 
-// The code after one level more.
-fn raised(code: u16, level: u16) -> u16
-    requires { ⌜ level < levelBound ⌝ }
-    ensures { λ r. ⌜ r ≡ raised code level ⌝ }
+// The code after one slot more.
+fn raised(code: u16, slot: u16) -> u16
+    requires { ⌜ slot < slotBound ⌝ }
+    ensures { λ r. ⌜ r ≡ raised code slot ⌝ }
 {
-    let once = 2 * level;
+    let once = 2 * slot;
     if code < once {
         return once;
     }
@@ -43,7 +43,7 @@ fn raised(code: u16, level: u16) -> u16
     code
 }
 
-// The level behind those that a code has met: the latest, and one more where it was met twice.
+// The slot behind those that a code has met: the latest, and one more where it was met twice.
 fn behind(code: u16) -> u16
     ensures { λ r. ⌜ r ≡ behind code ⌝ }
 {
@@ -108,7 +108,7 @@ fn first_jobs(waits: &[u16; MAX_JOBS], jobs: usize, order: &mut [u16; MAX_JOBS])
     count
 }
 
-// A giver of the taker is peeled: its level raises the taker's code, and where it was the last one the taker enters the order, which has
+// A giver of the taker is peeled: its slot raises the taker's code, and where it was the last one the taker enters the order, which has
 // `count` jobs before and as many as this gives after.
 fn peel_need(
     release: &mut [u16; MAX_JOBS],
@@ -116,13 +116,13 @@ fn peel_need(
     order: &mut [u16; MAX_JOBS],
     count: usize,
     taker: usize,
-    level: u16,
+    slot: u16,
 ) -> usize
-    requires { ⌜ (taker < maxJobs) × (count < maxJobs) × (0 < at (now waits) taker) × (level < levelBound) ⌝ }
+    requires { ⌜ (taker < maxJobs) × (count < maxJobs) × (0 < at (now waits) taker) × (slot < slotBound) ⌝ }
     ensures { λ r. ⌜ peelOf (now (release .exit)) (now (waits .exit)) (now (order .exit)) r
-        ≡ peelNeed level taker (peelOf (now (release .entry)) (now (waits .entry)) (now (order .entry)) count) ⌝ }
+        ≡ peelNeed slot taker (peelOf (now (release .entry)) (now (waits .entry)) (now (order .entry)) count) ⌝ }
 {
-    release[taker] = raised(release[taker], level);
+    release[taker] = raised(release[taker], slot);
     let left = waits[taker] - 1;
     waits[taker] = left;
     if left == 0 {
@@ -140,17 +140,17 @@ fn peel_word(
     count: usize,
     first: usize,
     takers: Set,
-    level: u16,
+    slot: u16,
 ) -> usize
-    requires { ⌜ (level < levelBound) × ((n : ℕ) × Ready n (numbered first takers) (peelOf (now release) (now waits) (now order) count)) ⌝ }
+    requires { ⌜ (slot < slotBound) × ((n : ℕ) × Ready n (numbered first takers) (peelOf (now release) (now waits) (now order) count)) ⌝ }
     ensures { λ r. ⌜ peelOf (now (release .exit)) (now (waits .exit)) (now (order .exit)) r
-        ≡ peelAll level (numbered first takers) (peelOf (now (release .entry)) (now (waits .entry)) (now (order .entry)) count) ⌝ }
+        ≡ peelAll slot (numbered first takers) (peelOf (now (release .entry)) (now (waits .entry)) (now (order .entry)) count) ⌝ }
 {
     let mut rest = takers;
     let mut entered = count;
     while !rest.is_empty() {
         let taker = first + rest.lowest() as usize;
-        entered = peel_need(release, waits, order, entered, taker, level);
+        entered = peel_need(release, waits, order, entered, taker, slot);
         rest = rest.rest();
     }
     entered
@@ -165,12 +165,12 @@ fn peel_row(
     order: &mut [u16; MAX_JOBS],
     count: usize,
     job: usize,
-    level: u16,
+    slot: u16,
 ) -> usize
-    requires { ⌜ RowsOf (now rows) jobs × (job < jobs) × (level < levelBound)
+    requires { ⌜ RowsOf (now rows) jobs × (job < jobs) × (slot < slotBound)
         × Ready jobs (takersOf (now rows) jobs job) (peelOf (now release) (now waits) (now order) count) ⌝ }
     ensures { λ r. ⌜ peelOf (now (release .exit)) (now (waits .exit)) (now (order .exit)) r
-        ≡ peelAll level (takersOf (now (rows .entry)) jobs job) (peelOf (now (release .entry)) (now (waits .entry)) (now (order .entry)) count) ⌝ }
+        ≡ peelAll slot (takersOf (now (rows .entry)) jobs job) (peelOf (now (release .entry)) (now (waits .entry)) (now (order .entry)) count) ⌝ }
 {
     let last = words(jobs);
     let mut entered = count;
@@ -183,7 +183,7 @@ fn peel_row(
             entered,
             WORD_BITS * w,
             word(rows, job, w),
-            level,
+            slot,
         );
         w += 1;
     }
@@ -200,14 +200,14 @@ fn peel_job(
     count: usize,
     job: usize,
 ) -> usize
-    requires { ⌜ RowsOf (now rows) jobs × (job < jobs) × (behind (at (now release) job) + 1 < levelBound)
+    requires { ⌜ RowsOf (now rows) jobs × (job < jobs) × (behind (at (now release) job) + 1 < slotBound)
         × Ready jobs (takersOf (now rows) jobs job) (released job (peelOf (now release) (now waits) (now order) count)) ⌝ }
     ensures { λ r. ⌜ peelOf (now (release .exit)) (now (waits .exit)) (now (order .exit)) r
         ≡ peelJob (now (rows .entry)) jobs job (peelOf (now (release .entry)) (now (waits .entry)) (now (order .entry)) count) ⌝ }
 {
-    let level = behind(release[job]);
-    release[job] = level;
-    peel_row(rows, jobs, release, waits, order, count, job, level + 1)
+    let slot = behind(release[job]);
+    release[job] = slot;
+    peel_row(rows, jobs, release, waits, order, count, job, slot + 1)
 }
 
 // Are the needs free of circles? Then `order` has every job behind its givers, and `release` the release of each.
@@ -235,9 +235,9 @@ pub fn peel(
 
 // ---- the tails
 
-// The code after the levels behind the takers in a word, numbered from `first`.
+// The code after the slots behind the takers in a word, numbered from `first`.
 fn raised_by_word(tail: &[u16; MAX_JOBS], first: usize, takers: Set, code: u16) -> u16
-    requires { ⌜ ((k : ℕ) → List·Memᴰ k (numbered first takers) → (k < maxJobs) × (at (now tail) k + 1 < levelBound)) ⌝ }
+    requires { ⌜ ((k : ℕ) → List·Memᴰ k (numbered first takers) → (k < maxJobs) × (at (now tail) k + 1 < slotBound)) ⌝ }
     ensures { λ r. ⌜ r ≡ raisedOver (at (now (tail .entry))) code (numbered first takers) ⌝ }
 {
     let mut rest = takers;
@@ -252,7 +252,7 @@ fn raised_by_word(tail: &[u16; MAX_JOBS], first: usize, takers: Set, code: u16) 
 
 // The tail of a job whose takers have theirs: one pass over the takers.
 fn tail_of(rows: &[u8], jobs: usize, tail: &[u16; MAX_JOBS], job: usize) -> u16
-    requires { ⌜ RowsOf (now rows) jobs × (job < jobs) × ((k : ℕ) → List·Memᴰ k (takersOf (now rows) jobs job) → at (now tail) k + 1 < levelBound) ⌝ }
+    requires { ⌜ RowsOf (now rows) jobs × (job < jobs) × ((k : ℕ) → List·Memᴰ k (takersOf (now rows) jobs job) → at (now tail) k + 1 < slotBound) ⌝ }
     ensures { λ r. ⌜ r ≡ tailOver (now (rows .entry)) jobs (now (tail .entry)) job ⌝ }
 {
     let last = words(jobs);

@@ -127,8 +127,8 @@ module _ (bs : List ℕ) (a : ℕ) where
       pub row-ends : a + 3 + length v ≤ length bs
       row-ends = let t = T-true (whole bs a) .1 w in omega (arith, ap length v-is, length-value bs a t, whole-is bs a .0 t, after-head bs a)
 
-      pub row-found : at bs a ≡ 17 → 5 ≤ length v → length v ≤ 16 → all nameByte (drop 2 (take (length v - 2) (drop 2 v))) ≡ true → Row (a + 3 + length v)
-          ≡ rowAnswer bs a
+      pub row-found : at bs a ≡ 17 → 5 ≤ length v → length v ≤ 16 → all nameByte (drop 2 (take (length v - 2) (drop 2 v))) ≡ true
+          → Row (a + 3 + length v) ≡ rowAnswer bs a
       unfolding rowAnswer
       row-found t l m e =
           let h = T-true (whole bs a) .1 w in

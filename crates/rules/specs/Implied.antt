@@ -1,7 +1,7 @@
 -- Needs that follow from others: the transitive arcs of the precedence graph (document 02, request 5). Jobs are counted from 0 here. Assumes nothing.
 use mathlib.Core.Bool.{Bool, false, not, _&&_, _||_}
 use mathlib.Core.List.{List, [], _∷_, _++_, map}
-use Prim.Native.Nat.{ℕ, zero, suc, _-_}
+use Prim.Native.Nat.{ℕ, zero, suc}
 use lib.ListN.{length, drop, replicate}
 use lib.Dec.{leb, eqb}
 use Rattle.rules.specs.Sizes.{pairsSize}

@@ -29,6 +29,6 @@ workSize = 65536
 abbrev pub tableSize : ℕ
 tableSize = 7606
 
--- two entries for each need that a file has room for: a need takes five bytes (document 02, request 5; law `list-fits`)
+-- two entries for each need that a file has room for: a need takes five bytes or more (document 02, request 5; law `list-fits`)
 abbrev pub pairsSize : ℕ
 pairsSize = 19660

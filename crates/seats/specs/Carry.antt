@@ -35,8 +35,8 @@ record Stayed (n : ℕ) (words : List ℕ) (b s : ℕ) (after : List ℕ) : Type
   small : Small n after
   prev : (p : ℕ) → p < maxWidth → setAt after (prevAt + maxWidth * s + p) ≡ minus (setAt words (prevAt + maxWidth * b + p)) (setAt words (endsAt + b))
   who : (p : ℕ) → p < maxWidth → at after (whoAt + maxWidth * s + p) ≡ at words (whoAt + maxWidth * b + p)
-  other : (k : ℕ) → ((p : ℕ) → p < maxWidth → ¬ (k ≡ prevAt + maxWidth * s + p)) → ((p : ℕ) → p < maxWidth → ¬ (k ≡ whoAt + maxWidth * s + p)) → at after k
-      ≡ at words k
+  other : (k : ℕ) → ((p : ℕ) → p < maxWidth → ¬ (k ≡ prevAt + maxWidth * s + p)) → ((p : ℕ) → p < maxWidth → ¬ (k ≡ whoAt + maxWidth * s + p))
+      → at after k ≡ at words k
 
 stayed-is : (n : ℕ) (words : List ℕ) (b s : ℕ) → s ≡ suc b → s < maxLimit → Small n words → Stayed n words b s (stayed words b s)
 unfolding stayed giversStay leftAt jobAt

@@ -15,7 +15,7 @@ use Rattle.laws.specs.Counting.{range-below}
 use Rattle.jobset.specs.Sets.{setAt}
 use Rattle.layout.specs.Layout.{heldAt, endsAt, dueAt, marksAt, slotsAt, capAt, threeAt, tablesIn, marksIn, prevAt, marksRoom}
 use Rattle.places.specs.Seats.{seatsOf}
-use Rattle.places.specs.Windows.{Windows, holdsSlot, held, hold, in-held, in-hold, Room, apart-hold, Leads, giver-released}
+use Rattle.places.specs.Windows.{Windows, holdsSlot, held, heldBefore, in-held, in-held-before, Room, apart-hold, Leads, giver-released}
 use Rattle.places.specs.Tables.{Due, Shows, ShowsDue}
 use Rattle.places.specs.Building.{gathered, due-shows}
 use Rattle.places.specs.Assign.{entering-is, seats-same}
@@ -50,15 +50,16 @@ filled-shows {W} {s} {words} D f few F = record {
       (λ i q. (in-held W t i .1 (q .0, q .1 .0, q .1 .1), tt)) (λ i m u. let w = in-held W t i .0 m in (w .0, (w .1, w .2)))
       (rw (F .rows .held-is t h) (seats-gather π (holdsSlot W t) (orderOf W) (λ i. (i < W .n) × Holds W t i) (λ i m y. (in-order W i .0 m, T-holds W t i .0 y))
       (λ i q. (in-order W i .1 (q .0), T-holds W t i .1 (q .1)))));
-  ends-is = λ t h. gathered π (hold W t) (setAt words (endsAt + t)) (λ i. W .d i ≡ t) (λ i. (i < W .n) × (W .d i ≡ t) × (W .r i < W .d i))
+  ends-is = λ t h. gathered π (heldBefore W t) (setAt words (endsAt + t)) (λ i. W .d i ≡ t) (λ i. (i < W .n) × (W .d i ≡ t) × (W .r i < W .d i))
       (apart-hold W (seatsBy W f) t)
-      (λ i q. (in-hold W t i .1 (q .0, omega (arith, q .1, q .2), omega (arith, q .1)), q .1))
-      (λ i m e. let w = in-hold W t i .0 m in (w .0, e, omega (arith, w .1)))
+      (λ i q. (in-held-before W t i .1 (q .0, omega (arith, q .1, q .2), omega (arith, q .1)), q .1))
+      (λ i m e. let w = in-held-before W t i .0 m in (w .0, e, omega (arith, w .1)))
       (rw (F .rows .ends-is t (omega arith)) (seats-gather π (endsWith W t) (orderOf W) (λ i. (i < W .n) × (W .d i ≡ t) × (W .r i < W .d i))
       (λ i m y. let w = T-ends W t i .0 y in (in-order W i .0 m, w .0, w .1)) (λ i q. (in-order W i .1 (q .0), T-ends W t i .1 (q .1, q .2)))));
   prev-is = λ t i h m. let w = in-held W t i .0 m in
-      gathered π (hold W t) (setAt words (prevOf t i)) (λ g. Gives (W .needs) g i) (λ g. Gives (W .needs) g i × (t ≤ W .d g)) (apart-hold W (seatsBy W f) t)
-      (λ g q. (in-hold W t g .1 (D .needs-in g i (q .0) .0, giver-released W D t i m g (q .0), q .1), q .0)) (λ g k a. (a, in-hold W t g .0 k .2))
+      gathered π (heldBefore W t) (setAt words (prevOf t i)) (λ g. Gives (W .needs) g i) (λ g. Gives (W .needs) g i
+      × (t ≤ W .d g)) (apart-hold W (seatsBy W f) t)
+      (λ g q. (in-held-before W t g .1 (D .needs-in g i (q .0) .0, giver-released W D t i m g (q .0), q .1), q .0)) (λ g k a. (a, in-held-before W t g .0 k .2))
       (rw (F .rows .prev-is t i h (in-order W i .1 (w .0)) (w .1, w .2)) (seats-gather π (givesTo W i t) (orderOf W) (λ g. Gives (W .needs) g i × (t ≤ W .d g))
       (λ g k y. T-gives W i t g .0 y) (λ g q. (in-order W g .1 (D .needs-in g i (q .0) .0), T-gives W i t g .1 q))));
   who-is = λ t i h m. let w = in-held W t i .0 m in F .rows .who-is t i h (in-order W i .1 (w .0)) (w .1, w .2);

@@ -17,12 +17,12 @@ use Rattle.laws.specs.Program.{gives-is}
 use Rattle.jobset.specs.declared.Set.{Set}
 use Rattle.jobset.specs.Sets.{setAt, empty, member, with, minus}
 use Rattle.jobset.specs.Tests.{present}
-use Rattle.layout.specs.Layout.{heldAt, endsAt, dueAt, marksAt, prevAt, whoAt, slotsAt, tablesIn}
+use Rattle.layout.specs.Layout.{heldAt, endsAt, dueAt, marksAt, prevAt, whoAt, slotsAt, tablesIn, longestRow}
 use Rattle.threes.specs.Threes.{threes, numberOf, number-lt}
 use Rattle.places.specs.Seats.{seatsOf, in-seats}
 use Rattle.places.specs.Windows.{Windows, holdsSlot, held, in-held, Leads}
 use Rattle.places.specs.Tables.{Tables}
-use Rattle.places.specs.Memo.{before, rowBytes}
+use Rattle.places.specs.Memo.{before, rowStart}
 use Rattle.seats.specs.Gather.{seats-with, seats-skip, seats-minus}
 use Rattle.seats.specs.Order.{placeOf, place-apart}
 use Rattle.seats.specs.Bytes.{same-set}
@@ -69,13 +69,13 @@ pub record Rows (W : Windows) (s : ℕ) (xs words : List ℕ) : Type 0 where
   pub ends-is : (t : ℕ) → t < maxLimit + 1 → setAt words (endsAt + t) ≡ seatsOf (placeOf W) (endsWith W t) xs
   pub prev-is : (t i : ℕ) → t < s → List·Memᴰ i xs → Holds W t i → setAt words (prevAt + maxWidth * t + placeOf W i) ≡ seatsOf (placeOf W) (givesTo W i t) xs
   pub who-is : (t i : ℕ) → t < s → List·Memᴰ i xs → Holds W t i → at words (whoAt + maxWidth * t + placeOf W i) ≡ i
-  pub marks : (t : ℕ) → t ≤ s → at words (marksAt + t) ≡ rowBytes (tablesIn words) t
+  pub marks : (t : ℕ) → t ≤ s → at words (marksAt + t) ≡ rowStart (tablesIn words) t
 
 -- ---- where the rows of marks begin
 
 -- a row begins where the held sets before it say
-pub bytes-same : (A B : Tables) (t : ℕ) → ((u : ℕ) → suc u < t → A .held u ≡ B .held u) → rowBytes A t ≡ rowBytes B t
-unfolding rowBytes
+pub bytes-same : (A B : Tables) (t : ℕ) → ((u : ℕ) → suc u < t → A .held u ≡ B .held u) → rowStart A t ≡ rowStart B t
+unfolding rowStart
 bytes-same A B zero h = refl
 bytes-same A B (suc zero) h = refl
 bytes-same A B (suc (suc t)) h = ap₂ (λ (x : ℕ) (S : Set). x + threes S / 4 + 1) (bytes-same A B (suc t) (λ u l. h u (omega arith))) (h t (omega arith))
@@ -84,9 +84,9 @@ pub threes-few : (S : Set) → threes S ≤ 3280
 unfolding numberOf
 threes-few S = omega (arith, number-lt S S)
 
--- no row has more than 821 bytes
-pub bytes-few : (A : Tables) (t : ℕ) → rowBytes A t ≤ 821 * t
-unfolding rowBytes
+-- no row is longer than the longest
+pub bytes-few : (A : Tables) (t : ℕ) → rowStart A t ≤ longestRow * t
+unfolding rowStart
 bytes-few A zero = omega arith
 bytes-few A (suc zero) = omega (arith, threes-few empty)
 bytes-few A (suc (suc t)) = omega (arith, bytes-few A (suc t), threes-few (A .held t))
@@ -186,7 +186,7 @@ module _ (W : Windows) (D : Leads W) where
   pub rows-carry : (b s : ℕ) (xs words after : List ℕ) → s ≡ suc b → s < maxLimit → ((j : ℕ) → List·Memᴰ j xs → j < W .n) →
       ((j : ℕ) → List·Memᴰ j xs → W .r j < W .d j → W .r j < s)
       → Carried (W .n) words b s after → Rows W s xs words → Rows W (suc s) xs after
-  unfolding tablesIn carriedHeld nextMark rowBytes
+  unfolding tablesIn carriedHeld nextMark rowStart
   rows-carry b s xs words after next below in-n entered C R = record {
     small = C .small;
     low = R .low;
@@ -255,16 +255,16 @@ module _ (W : Windows) (D : Leads W) where
           C .other (whoAt + maxWidth * t + π i) (λ f. omega arith) (λ f. omega arith) (λ p k f. omega arith) (λ p k f. omega arith)
           ∙ R .who-is t i (omega arith) m q
 
-      same-bytes : (t : ℕ) → t ≤ suc s → rowBytes (tablesIn words) t ≡ rowBytes (tablesIn after) t
+      same-bytes : (t : ℕ) → t ≤ suc s → rowStart (tablesIn words) t ≡ rowStart (tablesIn after) t
       same-bytes t h = bytes-same (tablesIn words) (tablesIn after) t
           (λ u k. same-set (sym (C .other (heldAt + u) (λ f. omega arith) (λ f. omega arith) (λ p l f. omega arith) (λ p l f. omega arith))))
 
-      last : rowBytes (tablesIn words) (suc s) ≡ nextMark words b s
+      last : rowStart (tablesIn words) (suc s) ≡ nextMark words b s
       last = let e : threes (before (tablesIn words) s) / 4 ≡ threes (setAt words (heldAt + b)) / 4 = ap
           (λ (x : ℕ). threes (before (tablesIn words) x) / 4) next in omega (arith, R .marks s (omega arith))
 
-      mark : (t : ℕ) → t ≤ suc s → Dec (t ≡ suc s) → at after (marksAt + t) ≡ rowBytes (tablesIn after) t
-      mark t h (yes z) = let f : marksAt + t ≡ marksAt + s + 1 = omega arith in ap (at after) f ∙ C .mark ∙ sym last ∙ ap (rowBytes (tablesIn words)) (sym z)
+      mark : (t : ℕ) → t ≤ suc s → Dec (t ≡ suc s) → at after (marksAt + t) ≡ rowStart (tablesIn after) t
+      mark t h (yes z) = let f : marksAt + t ≡ marksAt + s + 1 = omega arith in ap (at after) f ∙ C .mark ∙ sym last ∙ ap (rowStart (tablesIn words)) (sym z)
           ∙ same-bytes t h
       mark t h (no z) = C .other (marksAt + t) (λ f. omega arith) (λ f. z (omega arith)) (λ p k f. omega arith) (λ p k f. omega arith) ∙ R .marks t
           (omega arith) ∙ same-bytes t h

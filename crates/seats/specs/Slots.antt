@@ -17,7 +17,7 @@ use Rattle.layout.specs.Layout.{heldAt, endsAt, marksAt, threeAt, tableWords, t
 use Rattle.threes.specs.Threes.{threes, threesTo, entry}
 use Rattle.places.specs.Seats.{seatsOf}
 use Rattle.places.specs.Windows.{Windows, Leads}
-use Rattle.places.specs.Memo.{rowBytes}
+use Rattle.places.specs.Memo.{rowStart}
 use Rattle.places.specs.Assign.{entering}
 use Rattle.seats.specs.Order.{placeOf, entrants, in-entering, slotsOf, Rest, rest-of, HasPlaces}
 use Rattle.seats.specs.Bytes.{same-set}
@@ -73,7 +73,7 @@ noTables = withThrees (set (replicate tableWords 0) (marksAt + 1) 1)
 
 -- no job, in the first slot
 pub none-entered : (W : Windows) → 0 < W .n → Entered W 1 (entering W 0) noTables (replicate maxJobs 0) (replicate maxJobs 0)
-unfolding entering seatsOf tablesIn rowBytes threes threesTo member digit choose
+unfolding entering seatsOf tablesIn rowStart threes threesTo member digit choose
 none-entered W pos = record {
   rows = record {
     small = small;
@@ -114,7 +114,7 @@ none-entered W pos = record {
       threes = λ b h. unfold withThrees in row-at threeAt entry one placeSets b h (omega (arith, len));
     }
 
-    mark : (t : ℕ) → t ≤ 1 → at noTables (marksAt + t) ≡ rowBytes (tablesIn noTables) t
+    mark : (t : ℕ) → t ≤ 1 → at noTables (marksAt + t) ≡ rowStart (tablesIn noTables) t
     mark zero h = past (marksAt + 0) (omega arith) (λ e. omega arith)
     mark (suc zero) h = old (marksAt + 1) (omega arith) ∙ getD-set-same zeros (marksAt + 1) 1 0 (omega arith)
     mark (suc (suc t)) h = absurd (omega arith)
@@ -169,12 +169,10 @@ pub seated-none : {W : Windows} {limit : ℕ} {words places : List ℕ} → ¬ (
 seated-none n = record {
   few = omega arith;
   within = omega arith;
-  enough =
-      (λ h. absurd (omega arith), λ f. absurd (n f));
+  enough = (λ h. absurd (omega arith), λ f. absurd (n f));
   filled = λ h. absurd (omega arith);
   places-len = λ h. absurd (omega arith);
-  places-are = λ h. absurd
-      (omega arith);
+  places-are = λ h. absurd (omega arith);
 }
 
 pub seated-all : {W : Windows} {limit r : ℕ} {words places givers : List ℕ} → Leads W → Slots W limit r → Entered W r (entering W r) words places givers

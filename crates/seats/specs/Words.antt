@@ -119,8 +119,8 @@ pub record Seated (n : ℕ) (words : List ℕ) (slot job p last givers : ℕ) (a
   pub ends : setAt after (endsAt + last) ≡ with (setAt words (endsAt + last)) p
   pub prev : at after (prevAt + maxWidth * slot + p) ≡ givers
   pub who : at after (whoAt + maxWidth * slot + p) ≡ job
-  pub other : (k : ℕ) → ¬ (k ≡ heldAt + slot) → ¬ (k ≡ endsAt + last) → ¬ (k ≡ prevAt + maxWidth * slot + p) → ¬ (k ≡ whoAt + maxWidth * slot + p) → at after k
-      ≡ at words k
+  pub other : (k : ℕ) → ¬ (k ≡ heldAt + slot) → ¬ (k ≡ endsAt + last) → ¬ (k ≡ prevAt + maxWidth * slot + p) → ¬ (k ≡ whoAt + maxWidth * slot + p)
+      → at after k ≡ at words k
 
 pub seated-is : (n : ℕ) (words : List ℕ) (slot job p last givers : ℕ) → Small n words → slot < maxLimit → last ≤ maxLimit → p < maxWidth → job < n
     → givers < placeSets

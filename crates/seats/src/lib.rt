@@ -150,7 +150,7 @@ fn give_row(
     last: usize,
 )
     requires { ⌜ (jobs ≤ maxJobs) × (giver < jobs) × (rowBytes * jobs ≤ length (now rows))
-        × ((k : ℕ) → List·Memᴰ k (takersOf (now rows) jobs giver) → k < jobs) × (place < 8) ⌝ }
+        × ((k : ℕ) → List·Memᴰ k (takersOf (now rows) jobs giver) → k < jobs) × (place < maxWidth) ⌝ }
     ensures { λ _. ⌜ now (givers .exit) ≡ giveEach (now (release .entry)) place last (takersOf (now (rows .entry)) jobs giver) (now (givers .entry)) ⌝ }
 {
     let mut w = 0;
@@ -242,6 +242,7 @@ fn stay(tables: &mut [u16; TABLES], slot: usize)
 }
 
 // The slot has what the one before it had, without what ended; and the row of marks behind its own begins where its own ends.
+// A state has two parts of the places before: its number is at most twice the number of them all, and a byte has eight marks.
 fn carry(tables: &mut [u16; TABLES], slot: usize)
     requires { ⌜ (1 ≤ slot) × (slot < maxLimit) × (at (now tables) (marksAt + slot) ≤ marksRoom) × ((n : ℕ) × Small n (now tables)) ⌝ }
     ensures { λ _. ⌜ now (tables .exit) ≡ carried (now (tables .entry)) (slot - 1) slot ⌝ }
@@ -255,7 +256,7 @@ fn carry(tables: &mut [u16; TABLES], slot: usize)
     stay(tables, slot);
 }
 
-// The slots in which a job enters: up to the greatest release below the limit.
+// The slots in which jobs enter: one more than the greatest release, at most the limit. No job with a window enters behind them.
 fn entries(release: &[u16; MAX_JOBS], jobs: usize, limit: usize) -> usize
     requires { ⌜ jobs ≤ maxJobs ⌝ }
     ensures { λ r. ⌜ r ≡ most (λ i. min (at (now (release .entry)) i + 1) limit) jobs ⌝ }
@@ -289,7 +290,7 @@ fn put_threes(tables: &mut [u16; TABLES])
     }
 }
 
-// Every job whose window holds a slot takes its place: gives the slots that the tables then have, up to the last in which a job enters; 0
+// Every job whose window holds a slot takes its place: gives the slots that the tables then have, those in which jobs enter; 0
 // where places run out (question 12). The tables and the places are zeros before.
 pub fn seat_all(
     rows: &[u8],

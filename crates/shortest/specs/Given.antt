@@ -16,11 +16,10 @@ use Rattle.jobset.specs.declared.Set.{Set}
 use Rattle.jobset.specs.Sets.{isSubset}
 use Rattle.dominance.specs.States.{Instance, State}
 use Rattle.places.specs.Seats.{On, subset-on}
-use Rattle.places.specs.Windows.{Windows, held, hold, in-held, in-hold, held-rising, Room, Seats, Leads}
+use Rattle.places.specs.Windows.{Windows, held, heldBefore, in-held, in-held-before, held-rising, Room, Seats, Leads}
 use Rattle.places.specs.Tables.{Tables, Due, Shows, ShowsDue}
 
 -- the windows bound the starts of every list that keeps the rules and fits: it starts each job in its window, with its tail behind it.
--- (A first slot or a last end of a job would narrow the windows, and be asked of the lists here)
 pub record Bounds (W : Windows) (limit : ℕ) : Type 0 where
   pub early : (u : List ℕ) → Kept (Gives (W .needs)) (at u) → (i : ℕ) → i < W .n → W .r i ≤ at u i
   pub timely : (u : List ℕ) (C : ℕ) → C ≤ limit → Kept (Gives (W .needs)) (at u) → Fits (W .n) C u
@@ -80,8 +79,8 @@ pub record At (G : Given) (left : ℕ) : Type 0 where
   pub ran : Set
   pub state : State (within G) s t
   pub closed : (i : ℕ) → i < G .W .n → (G .W .d i < s) ⊎ (G .C < s + G .W .θ i) → at t i < s
-  pub done-is : On (G .Z .place) (hold (G .W) s) done (λ i. at t i < s)
-  pub ran-is : On (G .Z .place) (hold (G .W) s) ran (λ i. at t i + 1 ≡ s)
+  pub done-is : On (G .Z .place) (heldBefore (G .W) s) done (λ i. at t i < s)
+  pub ran-is : On (G .Z .place) (heldBefore (G .W) s) ran (λ i. at t i + 1 ≡ s)
 
 -- no job is late: what has its deadline at slot s or before, or no room for its tail behind s, is done
 abbrev pub InTime : Given → ℕ → List ℕ → Type 0
@@ -96,17 +95,17 @@ module _ {G : Given} {left : ℕ} (x : At G left) where
   started i l p = let w = in-held W (at (x .t) i) i .0 (may-start W (G .C) (at (x .t) i) i .0 (x .state .inside i l p) .0) in (w .1, w .2)
 
   -- a job that ran in the slot before stands in it
-  pub ran-held : (i : ℕ) → i < W .n → at (x .t) i + 1 ≡ x .s → List·Memᴰ i (hold W (x .s))
-  ran-held i l e = let w = started i l (omega arith) in in-hold W (x .s) i .1 (l, omega (arith, w .0), omega (arith, w .1))
+  pub ran-held : (i : ℕ) → i < W .n → at (x .t) i + 1 ≡ x .s → List·Memᴰ i (heldBefore W (x .s))
+  ran-held i l e = let w = started i l (omega arith) in in-held-before W (x .s) i .1 (l, omega (arith, w .0), omega (arith, w .1))
 
   -- the test for late jobs: only those that are due just now need be asked
   pub time-test : (isSubset (G .A .due (x .s)) (x .done) ≡ true) ↔ InTime G (x .s) (x .t)
   time-test = (
     λ e i l o. go e i l o (decLt (W .d i) (x .s)) (decLt (G .C) (x .s + W .θ i)),
-    λ f. test .1 (λ i m o. f i (in-hold W (x .s) i .0 m .0) (⊎-elim (λ e. inl (omega arith)) (λ e. inr (omega arith)) (o .0))),
+    λ f. test .1 (λ i m o. f i (in-held-before W (x .s) i .0 m .0) (⊎-elim (λ e. inl (omega arith)) (λ e. inr (omega arith)) (o .0))),
   )
     where
-      test : (isSubset (G .A .due (x .s)) (x .done) ≡ true) ↔ ((i : ℕ) → List·Memᴰ i (hold W (x .s)) → Due W (G .C) (x .s) i → at (x .t) i < x .s)
+      test : (isSubset (G .A .due (x .s)) (x .done) ≡ true) ↔ ((i : ℕ) → List·Memᴰ i (heldBefore W (x .s)) → Due W (G .C) (x .s) i → at (x .t) i < x .s)
       test = subset-on (G .ready .due .due-is (x .s) (omega (arith, x .sum))) (x .done-is)
 
       go : isSubset (G .A .due (x .s)) (x .done) ≡ true → (i : ℕ) → i < W .n → (W .d i ≤ x .s) ⊎ (G .C ≤ x .s + W .θ i)
@@ -116,5 +115,5 @@ module _ {G : Given} {left : ℕ} (x : At G left) where
       go e i l o (no a) (no b) =
           let r = G .ready .room .holds i l in
           let q = G .ready .room .behind i l in
-          test .0 e i (in-hold W (x .s) i .1 (l, ⊎-elim (λ z. omega arith) (λ z. omega arith) o, omega arith))
+          test .0 e i (in-held-before W (x .s) i .1 (l, ⊎-elim (λ z. omega arith) (λ z. omega arith) o, omega arith))
           (⊎-elim (λ z. inl (omega arith)) (λ z. inr (omega arith)) o, omega arith, omega arith)

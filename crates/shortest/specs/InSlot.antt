@@ -17,9 +17,8 @@ use Rattle.dominance.specs.States.{Instance}
 use Rattle.dominance.specs.Exact.{Forced, Tied}
 use Rattle.dominance.specs.Room.{Tying as TyingJob}
 use Rattle.places.specs.Seats.{Apart, On, on-iff, on-minus, on-intersection, at-place, subset-on, empty-on, SoleJob, one-on}
-use Rattle.places.specs.Windows.{Windows, held, hold, in-held, in-hold, apart-hold, giver-closed}
-use Rattle.places.specs.declared.Candidates.{Candidates}
-use Rattle.places.specs.Slot.{isForced, isTied, carried, candidatesAt, nearAt, in-forced, in-tied, Tying, in-tying}
+use Rattle.places.specs.Windows.{Windows, held, heldBefore, in-held, in-held-before, apart-hold, giver-closed}
+use Rattle.places.specs.Slot.{Candidates, isForced, isTied, carried, candidatesAt, nearAt, in-forced, in-tied, Tying, in-tying}
 use Rattle.places.specs.Building.{carried-on}
 use Rattle.shortest.specs.Given.{Given, may-start, within, At, InTime, started, ran-held}
 
@@ -39,7 +38,7 @@ module _ {G : Given} {k : ℕ} (x : At G (suc k)) (time : InTime G (x .s) (x .t)
 
   -- the jobs of the slot before, and those of the slot
   abbrev O : List ℕ
-  O = hold W (x .s)
+  O = heldBefore W (x .s)
 
   abbrev H : List ℕ
   H = held W (x .s)
@@ -63,7 +62,7 @@ module _ {G : Given} {k : ℕ} (x : At G (suc k)) (time : InTime G (x .s) (x .t)
 
   -- what has run before and stands in the slot stood in the slot before, and does not leave
   was : (i : ℕ) → List·Memᴰ i H → at (x .t) i < x .s → List·Memᴰ i O
-  was i m p = let w = started x i (in-n i m) p in in-hold W (x .s) i .1 (in-n i m, omega (arith, w .0), omega (arith, in-held W (x .s) i .0 m .2))
+  was i m p = let w = started x i (in-n i m) p in in-held-before W (x .s) i .1 (in-n i m, omega (arith, w .0), omega (arith, in-held W (x .s) i .0 m .2))
 
   -- what is done of the slot before, without the places that end: what is done of this slot
   pub next-is : On π H next (λ i. at (x .t) i < x .s)

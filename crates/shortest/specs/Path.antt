@@ -15,11 +15,10 @@ use Rattle.jobset.specs.Membership.{in-union, in-minus}
 use Rattle.jobset.specs.Tests.{absent, present}
 use Rattle.dominance.specs.Placing.{place, length-place, place-out, place-in}
 use Rattle.places.specs.Seats.{jobsOf, in-jobs}
-use Rattle.places.specs.Windows.{Windows, held, in-held, in-hold, Seats}
+use Rattle.places.specs.Windows.{Windows, held, in-held, in-held-before, Seats}
 use Rattle.places.specs.Tables.{Tables, Shows}
-use Rattle.places.specs.declared.Candidates.{Candidates}
 use Rattle.places.specs.Rows.{chosen-in, in-places, picks, tried-number}
-use Rattle.places.specs.Slot.{carried, candidatesAt, nearAt, ableOf, rowAt, mostOf, triesAt, in-forced, in-tied, in-row-at}
+use Rattle.places.specs.Slot.{Candidates, carried, candidatesAt, nearAt, ableOf, rowAt, mostOf, triesAt, in-forced, in-tied, in-row-at}
 use Rattle.places.specs.Model.{Plan, slotThen, tryAll, doneAfter, find, placed}
 use Rattle.shortest.specs.Starts.{planOf, plan-proper}
 
@@ -153,7 +152,7 @@ module _ (W : Windows) (Z : Seats W) (C : ℕ) (A : Tables) (sh : Shows W Z C A)
       to : (s : ℕ) → W .r i < s → s ≤ l → member (A .ends s) (Z .place i) ≡ true → W .d i ≡ s
       to s x y m =
           let v = in-held W l i .0 c in
-          sh .ends-is s (omega (arith, plan-proper W Z C A sh cap .short)) .to i (in-hold W s i .1 (v .0, x, omega (arith, v .2))) m
+          sh .ends-is s (omega (arith, plan-proper W Z C A sh cap .short)) .to i (in-held-before W s i .1 (v .0, x, omega (arith, v .2))) m
 
   -- a slot of the job's window whose set has its place is the start that the plan gives
   pub start-is : (i j : ℕ) (t : List ℕ) → i < length t → List·Memᴰ i (held W j) → j < length (planOf A cap C .sets)

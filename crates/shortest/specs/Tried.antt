@@ -25,11 +25,10 @@ use Rattle.dominance.specs.Maximal.{Maximal, TriesMaximal}
 use Rattle.dominance.specs.Exact.{Forced, Tied, legal, allow, forced-or-tied, maximal-parts, maximal-exact}
 use Rattle.dominance.specs.Room.{Tying, parts-fit, full-only}
 use Rattle.places.specs.Seats.{Apart, OfPlaces, On, on-union, at-place, jobsOf, in-jobs, jobs-by, setOf, set-of-is}
-use Rattle.places.specs.Windows.{Windows, held, hold, apart-hold, low-hold}
-use Rattle.places.specs.declared.Candidates.{Candidates}
+use Rattle.places.specs.Windows.{Windows, held, heldBefore, apart-hold, low-held-before}
 use Rattle.places.specs.Rows.{Sorted, row-distinct, row-sorted, at-sorted, Pick, in-chosen, chosen-in, chosen-distinct, bit-low, numberFor, number-for-lt}
 use Rattle.places.specs.Rows.{chosen-number, placesOf, in-places, Loose, isTry, is-try, picks, triedBelow, tried-number, number-tried, tried-ordered}
-use Rattle.places.specs.Slot.{candidatesAt, nearAt, ableOf, rowAt, in-row-at, fitOf, mostOf, most-is, triesAt}
+use Rattle.places.specs.Slot.{Candidates, candidatesAt, nearAt, ableOf, rowAt, in-row-at, fitOf, mostOf, most-is, triesAt}
 use Rattle.places.specs.Fit.{members-distinct, size-is, fit-most}
 use Rattle.places.specs.OneSet.{ties-at}
 use Rattle.shortest.specs.Given.{Given, within, At, InTime}
@@ -70,9 +69,9 @@ size-jobs π H once apart low S of =
     below p m = let w = of p m in rw (w .2) at (low (w .0) (w .1))
 
 -- the jobs of the slot before a slot, each once
-hold-distinct : (W : Windows) (s : ℕ) → Distinct (hold W s)
-hold-distinct W zero = tt
-hold-distinct W (suc s) = passing-distinct _ (W .n)
+held-before-distinct : (W : Windows) (s : ℕ) → Distinct (heldBefore W s)
+held-before-distinct W zero = tt
+held-before-distinct W (suc s) = passing-distinct _ (W .n)
 
 -- what is within the cap, and fits, is no more than a slot tries
 within-most : (cap : ℕ) (c : Candidates) (m : ℕ) → m ≤ cap → m ≤ fitOf c → m ≤ mostOf cap c
@@ -102,7 +101,7 @@ module _ {G : Given} {k : ℕ} (x : At G (suc k)) (time : InTime G (x .s) (x .t)
   H = held (G .W) (x .s)
 
   abbrev O : List ℕ
-  O = hold (G .W) (x .s)
+  O = heldBefore (G .W) (x .s)
 
   apart-H : Apart π H
   apart-H = G .Z .apart (x .s)
@@ -275,7 +274,8 @@ module _ {G : Given} {k : ℕ} (x : At G (suc k)) (time : InTime G (x .s) (x .t)
       arith,
       jobs-size,
       fit-most (cs .forced) (cs .tied) (cs .tying) near
-          (ties-at (G .A) (x .s) (x .done) (x .ran) (λ p z. let w = x .ran-is .bound p z in omega (arith, low-hold (G .W) (G .Z) (x .s) (w .0) (w .1), w .2)))
+          (ties-at (G .A) (x .s) (x .done) (x .ran) (λ p z. let w = x .ran-is .bound p z in
+          omega (arith, low-held-before (G .W) (G .Z) (x .s) (w .0) (w .1), w .2)))
           (picks row m) P-once
           (λ p w. let v = P-job p w in ⊎-elim
           (λ f. inl (ap (member (cs .forced)) (sym (v .2)) ∙ is-forced x time .from (v .0) (v .1) f))
@@ -344,14 +344,15 @@ module _ {G : Given} {k : ℕ} (x : At G (suc k)) (time : InTime G (x .s) (x .t)
 
   D-once : Distinct D
   unfolding jobsOf
-  D-once = filter-distinct _ O (hold-distinct (G .W) (x .s))
+  D-once = filter-distinct _ O (held-before-distinct (G .W) (x .s))
 
   fit-is : fitOf cs ≡ length F + length D
   unfolding fitOf
   fit-is = omega (
     arith,
     size-jobs π H (passing-distinct _ (G .W .n)) apart-H (λ i m. omega (arith, low i m)) (cs .forced) (is-forced x time .bound),
-    size-jobs π O (hold-distinct (G .W) (x .s)) apart-O (λ i m. omega (arith, low-hold (G .W) (G .Z) (x .s) i m)) (cs .tying) (is-tying x time .bound),
+    size-jobs π O (held-before-distinct (G .W) (x .s)) apart-O (λ i m. omega (arith, low-held-before (G .W) (G .Z) (x .s) i m)) (cs .tying)
+        (is-tying x time .bound),
   )
 
   -- ---- a maximal set has the cap, or all that fits

@@ -6,9 +6,10 @@ pub const MAX_JOBS: usize = 400;
 // The most bytes of a job file (question 2).
 pub const MAX_FILE: usize = 49152;
 
-// The working buffer and the table buffer (question 1): the longest table.
+// The working buffer (question 1).
 pub const WORK_BYTES: usize = 65536;
 
+// The table buffer (question 1): the longest table.
 pub const TABLE_BYTES: usize = 7606;
 
 // The entries of the list of needs that follow from others: two for each need that a file has room for.
@@ -17,7 +18,7 @@ pub const PAIR_ENTRIES: usize = 19660;
 // The most slots that a limit allows.
 pub const MAX_SLOTS: usize = 64;
 
-// The most windows that hold one slot (question 12), and the most boards: so many places, each a bit of a byte.
+// The most windows that hold one slot (question 12): so many places, each a bit of a byte.
 pub const PLACES: usize = 8;
 
 // The most boards of a unit (question 16).

@@ -38,8 +38,8 @@ pub lowest-of : (S : Set) → ((q : ℕ) → member S q ≡ true → q < 64) →
 lowest-of S low e = lowest-member S (number-low S 64 low) e
 
 -- one of 63 boards is left where those not left are of eight places
-pub some-left : (free : Set) (used : ℕ → ℕ) → ((c : ℕ) → 1 ≤ c → c < 64 → member free c ≡ false → (p : ℕ) × (p < maxWidth) × (used p ≡ c)) → isEmpty free
-    ≡ false
+pub some-left : (free : Set) (used : ℕ → ℕ) → ((c : ℕ) → 1 ≤ c → c < 64 → member free c ≡ false → (p : ℕ) × (p < maxWidth) × (used p ≡ c))
+    → isEmpty free ≡ false
 some-left free used taken = absent (isEmpty free) (λ e. omega (
   arith,
   length-range 9 1,

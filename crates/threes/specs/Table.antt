@@ -1,4 +1,4 @@
--- The constant table of 256 numbers of request 11, and that each entry is the sum of 3 ^ k over the set bits k of its byte. Assumes nothing.
+-- The constant table of 256 numbers, and that each entry is the sum of 3 ^ k over the set bits k of its byte. Assumes nothing.
 use mathlib.Core.Path.{_≡_, refl}
 use mathlib.Core.List.{List, [], _∷_}
 use Prim.Native.Nat.{ℕ, _<_}

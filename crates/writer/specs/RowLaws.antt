@@ -29,8 +29,8 @@ unfolding rowBytes rowWith field jobOf
 row-length start board v h = omega (arith, length-drop 2 v)
 
 -- p has w in front of what l had from a on; r is put behind w
-pub put-behind : (w r l p q : List ℕ) (a k : ℕ) → length w ≡ a → a + length r ≤ length l → p ≡ w ++ drop a l → k ≡ length p - a → q
-    ≡ r ++ drop (length r) (midOf a k p)
+pub put-behind : (w r l p q : List ℕ) (a k : ℕ) → length w ≡ a → a + length r ≤ length l → p ≡ w ++ drop a l → k ≡ length p - a
+    → q ≡ r ++ drop (length r) (midOf a k p)
     → putMid a k p q ≡ (w ++ r) ++ drop (a + length r) l
 put-behind w r l p q a k lw fits ep ek eq =
     ap₂ (λ (x y : List ℕ). x ++ y) front (ap₂ (λ (x y : List ℕ). x ++ y) (eq ∙ ap (λ (x : List ℕ). r ++ drop (length r) x) middle) nothing
@@ -66,8 +66,8 @@ module _ (start board : ℕ) (v : List ℕ) (long : 3 ≤ length v) where
   unfolding name
   row-size r e = omega (arith, e, ap length name-is, length-drop 2 v, row-length start board v (omega arith))
 
-  pub row-put : (l p q : List ℕ) (level k r n : ℕ) → length v ≤ 14 → 19 ≤ length l → r ≡ length (take (length v - 2) (drop 2 v)) → level
-      ≡ rounded (word (at v 0) (at v 1))
+  pub row-put : (l p q : List ℕ) (level k r n : ℕ) → length v ≤ 14 → 19 ≤ length l → r ≡ length (take (length v - 2) (drop 2 v))
+      → level ≡ rounded (word (at v 0) (at v 1))
       → p ≡ fixedBytes (length v + 2) start board level ++ drop 7 l → k ≡ length p - 7 → n ≡ length (take (length v - 2) (drop 2 v)) → q
       ≡ take n (take (length v - 2) (drop 2 v)) ++ drop n (midOf 7 k p)
       → putMid 7 k p q ≡ rowBytes (rowWith start board v) ++ drop (r + 7) l

@@ -81,8 +81,8 @@ row-written w r l table q a k w′ so e fits ek eq = record {
   bytes = put-behind w r l table q a k (sym (so .size)) fits (so .bytes) ek eq ∙ ap (λ (x : List ℕ). x ++ drop (a + length r) l) (sym e);
 }
 
-pub head-length : (slots boards : ℕ) (buffer table : List ℕ) → table ≡ headBytes slots boards ++ drop 6 buffer → 6 ≤ length buffer → length table
-    ≡ length buffer
+pub head-length : (slots boards : ℕ) (buffer table : List ℕ) → table ≡ headBytes slots boards ++ drop 6 buffer → 6 ≤ length buffer
+    → length table ≡ length buffer
 unfolding headBytes
 head-length slots boards buffer table e h = omega (arith, ap length e, length-drop 6 buffer)
 

@@ -46,8 +46,8 @@ near c = c .intersection .ensures
 -- whether they are none of those so far
 apart : (c : tie.After-is-empty2 Inv-loop μ-loop) → let a = c .before .before .before .before .before .before .before .before .before .before .args in
     isEmpty (intersection (c .before .before .before .before .before .before .before .before .before .loop .givers)
-    (nearAt (tablesIn (a .tables .now)) (a .slot) (a .ran) (at (a .row .now) (c .before .before .before .before .before .before .lowest .result))))
-    ≡ c .is-empty2 .result
+    (nearAt (tablesIn (a .tables .now)) (a .slot) (a .ran)
+    (at (a .row .now) (c .before .before .before .before .before .before .lowest .result)))) ≡ c .is-empty2 .result
 apart c = rw (← (near (c .before .before)), ← (c .before .intersection2 .ensures)) (sym (c .is-empty2 .ensures))
 
 loop-holds : tie.Need-loop-holds Inv-loop μ-loop

@@ -8,12 +8,12 @@ use native.Mathlib.Omega.{arith}
 use lib.ListN.{length}
 use Rattle.rules.specs.Basics.{at}
 use Rattle.places.specs.Windows.{Windows}
-use Rattle.layout.specs.Layout.{marksAt}
+use Rattle.layout.specs.Layout.{marksAt, marksRoom}
 use Rattle.seats.specs.Filled.{Fitted}
 use Rattle.jobset.specs.Sets.{empty}
 use Rattle.bitmap.specs.Marks.{cleared}
 use Rattle.backtrack.specs.Search.{written, exploredIn}
-use Rattle.lengths.specs.Searching.{bitmapBytes, Search}
+use Rattle.lengths.specs.Searching.{Search}
 use Rattle.lengths.specs.Steps.{Going, goes, ends, fitting, searchable, bitmap-bytes, reached, none-due, not-found, is-found, length-written}
 use Rattle.lengths.proofs.search.Statement.{statement}
 use Rattle.lengths.proofs.search.Tie as tie
@@ -49,7 +49,7 @@ fitted c W cap Q =
     c .fit .ensures W (fitting W cap _ _ _ _ _ _ _ _ _ Q (l .has) (l .next) (l .tables) (l .path) (l .inv .1 W cap Q) (c .before .before .loop-test .taken))
 
 -- the bitmap has room for their marks
-roomy : (c : tie.After-fit Inv-loop μ-loop) → bitmapBytes ≤ length (to-loop c .loop .dead)
+roomy : (c : tie.After-fit Inv-loop μ-loop) → marksRoom ≤ length (to-loop c .loop .dead)
 roomy c = let q = to-start c .pre in omega (arith, to-loop c .loop .inv .0, q .2 .bitmap-fits)
 
 -- and is cleared for them

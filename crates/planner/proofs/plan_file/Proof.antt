@@ -7,7 +7,7 @@ use native.Mathlib.Omega.{arith}
 use lib.ListN.{length-replicate}
 use Rattle.releases.specs.Ordered.{Peeled}
 use Rattle.planner.specs.Planner.{JobsRead}
-use Rattle.planner.specs.Asked.{read-refused, jobs-read, boards-read, of-needs, refused-11, order-of, levels-read}
+use Rattle.planner.specs.Asked.{read-refused, jobs-read, boards-read, of-needs, refused-11, order-of, windows-read}
 use Rattle.planner.proofs.plan_file.Statement.{statement}
 use Rattle.planner.proofs.plan_file.Tie as tie
 
@@ -78,7 +78,7 @@ plan-windows-requires c κs =
     .before .before .before .before .before .before .pre in (
       omega (arith, p .0, r .ensures .1),
       p .1,
-      levels-read j _ _ _ (peeled (c .before .before .before .before .before .before .before .before .before .before .before))
+      windows-read j _ _ _ (peeled (c .before .before .before .before .before .before .before .before .before .before .before))
           (not-false _ (c .before .before .before .before .before .before .before .before .before .before .if2 .left)) _ _
           (boards-read (r .ensures .0) j _ (c .before .before .most-boards .ensures)) (c .before .before .before .before .before .before .tails .ensures),
     )

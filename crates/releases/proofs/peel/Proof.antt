@@ -7,7 +7,7 @@ use Rattle.rules.specs.Basics.{at}
 use Rattle.releases.specs.Peels.{Peel, peelOf}
 use Rattle.releases.specs.Ordered.{RowsOf}
 use Rattle.releases.specs.Sorted.{rows-of}
-use Rattle.releases.specs.Peeling.{Peeling, job-in, job-ready, level-small, peeling-step}
+use Rattle.releases.specs.Peeling.{Peeling, job-in, job-ready, slot-small, peeling-step}
 use Rattle.releases.specs.Ends.{peeling-start, peeling-end}
 use Rattle.releases.proofs.peel.Statement.{statement}
 use Rattle.releases.proofs.peel.Tie as tie
@@ -80,7 +80,7 @@ peel-job-requires c κs =
     let more = c .before .before .before .before .loop-test .taken in (
       rows-are d,
       in-jobs d .0,
-      omega (arith, in-jobs d, level-small (a .rows .now) (a .jobs) (l .next) (now-is d) (rows-are d) (l .inv) more),
+      omega (arith, in-jobs d, slot-small (a .rows .now) (a .jobs) (l .next) (now-is d) (rows-are d) (l .inv) more),
       job-ready (a .rows .now) (a .jobs) (l .next) (now-is d) (rows-are d) (l .inv) more,
     )
 

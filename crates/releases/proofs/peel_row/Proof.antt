@@ -12,13 +12,13 @@ use Rattle.releases.proofs.peel_row.Statement.{statement}
 use Rattle.releases.proofs.peel_row.Tie as tie
 
 abbrev Inv-loop : tie.InvT-loop
-Inv-loop rows jobs release₀ waits₀ order₀ count job level last entered₀ w₀ release waits order entered w =
+Inv-loop rows jobs release₀ waits₀ order₀ count job slot last entered₀ w₀ release waits order entered w =
     (w ≤ last) × Ready jobs (takersBehind rows jobs job w) (peelOf release waits order entered)
-    × (peelAll level (takersBehind rows jobs job w) (peelOf release waits order entered)
-    ≡ peelAll level (takersOf rows jobs job) (peelOf release₀ waits₀ order₀ entered₀))
+    × (peelAll slot (takersBehind rows jobs job w) (peelOf release waits order entered)
+    ≡ peelAll slot (takersOf rows jobs job) (peelOf release₀ waits₀ order₀ entered₀))
 
 abbrev μ-loop : tie.MeasureT-loop
-μ-loop rows jobs release₀ waits₀ order₀ count job level last entered₀ w₀ release waits order entered w =
+μ-loop rows jobs release₀ waits₀ order₀ count job slot last entered₀ w₀ release waits order entered w =
     last - w
 
 words-requires : tie.Need-words-requires Inv-loop μ-loop
@@ -92,8 +92,8 @@ loop-again c =
     let rest = takersBehind (a .rows .now) (a .jobs) (a .job) (l .w + 1) in
     rw (c .peel-word .ensures, c .before .word .ensures) (
       omega arith,
-      ready-behind (a .jobs) (a .level) (here d) rest (now-is d) (ready d),
-      sym (peel-append (a .level) (here d) rest (now-is d)) ∙ sym (ap (λ xs. peelAll (a .level) xs (now-is d)) (split d)) ∙ l .inv .2,
+      ready-behind (a .jobs) (a .slot) (here d) rest (now-is d) (ready d),
+      sym (peel-append (a .slot) (here d) rest (now-is d)) ∙ sym (ap (λ xs. peelAll (a .slot) xs (now-is d)) (split d)) ∙ l .inv .2,
     )
 
 returns : tie.Need-returns Inv-loop μ-loop
@@ -102,7 +102,7 @@ returns c =
     let a = c .before .before .before .before .args in
     let l = c .before .loop in
     let e = words-end (a .rows .now) (a .jobs) (a .job) (l .w) (omega (arith, c .before .before .words .ensures)) in
-    sym (ap (λ xs. peelAll (a .level) xs (peelOf (l .release) (l .waits) (l .order) (l .entered))) e) ∙ l .inv .2
+    sym (ap (λ xs. peelAll (a .slot) xs (peelOf (l .release) (l .waits) (l .order) (l .entered))) e) ∙ l .inv .2
 
 pub peel-row-spec : {M : Type 1} → statement M
 peel-row-spec =

@@ -12,13 +12,13 @@ use Rattle.releases.proofs.peel_word.Statement.{statement}
 use Rattle.releases.proofs.peel_word.Tie as tie
 
 abbrev Inv-loop : tie.InvT-loop
-Inv-loop release₀ waits₀ order₀ count first level rest₀ entered₀ release waits order rest entered =
+Inv-loop release₀ waits₀ order₀ count first slot rest₀ entered₀ release waits order rest entered =
     (rest .bits < 2 ^ 64) × ((n : ℕ) × Ready n (numbered first rest) (peelOf release waits order entered))
-    × (peelAll level (numbered first rest) (peelOf release waits order entered)
-    ≡ peelAll level (numbered first rest₀) (peelOf release₀ waits₀ order₀ entered₀))
+    × (peelAll slot (numbered first rest) (peelOf release waits order entered)
+    ≡ peelAll slot (numbered first rest₀) (peelOf release₀ waits₀ order₀ entered₀))
 
 abbrev μ-loop : tie.MeasureT-loop
-μ-loop release₀ waits₀ order₀ count first level rest₀ entered₀ release waits order rest entered =
+μ-loop release₀ waits₀ order₀ count first slot rest₀ entered₀ release waits order rest entered =
     rest .bits
 
 -- the turn of the loop over the members
@@ -72,7 +72,7 @@ peel-need-requires c κs =
     let a = d .before .before .before .before .args in
     let r = ready d .1 in (
       below d,
-      omega (arith, ready-count _ (a .level) _ _ _ r, r .jobs-few),
+      omega (arith, ready-count _ (a .slot) _ _ _ r, r .jobs-few),
       r .waiting (a .first + d .lowest .result) (List·Memᴰ·head refl),
       d .before .before .before .before .pre .0,
     )
@@ -92,11 +92,11 @@ loop-again c =
     let l = c .before .before .before .before .before .before .before .before .loop in
     let a = c .before .before .before .before .before .before .before .before .before .args in
     let r = ready (c .before .before .before .before .before) in
-    let next = ready-turn (r .0) (a .level) _ _ (now-is (c .before .before .before .before .before)) (r .1) in
+    let next = ready-turn (r .0) (a .slot) _ _ (now-is (c .before .before .before .before .before)) (r .1) in
     rw (c .rest .ensures, t .rest-is, c .before .peel-need .ensures) (
       omega (arith, t .less, l .inv .0),
       (r .0, next),
-      sym (ap (λ xs. peelAll (a .level) (map (a .first +_) xs) (now-is (c .before .before .before .before .before))) (t .first)) ∙ l .inv .2,
+      sym (ap (λ xs. peelAll (a .slot) (map (a .first +_) xs) (now-is (c .before .before .before .before .before))) (t .first)) ∙ l .inv .2,
     )
 
 returns : tie.Need-returns Inv-loop μ-loop
@@ -105,7 +105,7 @@ returns c =
     let l = c .before .before .loop in
     let a = c .before .before .before .args in
     let e = end (l .rest) (c .before .is-empty .result) (c .before .is-empty .ensures) (c .if1 .left) in
-    sym (ap (λ xs. peelAll (a .level) (map (a .first +_) xs) (peelOf (l .release) (l .waits) (l .order) (l .entered))) (e .no-members)) ∙ l .inv .2
+    sym (ap (λ xs. peelAll (a .slot) (map (a .first +_) xs) (peelOf (l .release) (l .waits) (l .order) (l .entered))) (e .no-members)) ∙ l .inv .2
 
 pub peel-word-spec : {M : Type 1} → statement M
 peel-word-spec =

@@ -1,4 +1,4 @@
--- `releases::raised_by_word` meets its contract: before each turn, the levels that are left raise the code to the same as all do. Assumes nothing.
+-- `releases::raised_by_word` meets its contract: before each turn, the slots that are left raise the code to the same as all do. Assumes nothing.
 use mathlib.Core.Path.{_≡_, refl, sym, ap, _∙_}
 use mathlib.Core.List.{_∷_, map, List·Memᴰ, List·Memᴰ·head, List·Memᴰ·tail}
 use Prim.Native.Nat.{ℕ, _+_, _^_, _<_}
@@ -8,14 +8,14 @@ use Rattle.rules.specs.Sizes.{maxJobs}
 use Rattle.rules.specs.Basics.{at}
 use Rattle.jobset.specs.Members.{Turn, turn, end}
 use Rattle.jobset.specs.Sets.{without}
-use Rattle.releases.specs.Codes.{levelBound, raisedOver}
+use Rattle.releases.specs.Codes.{slotBound, raisedOver}
 use Rattle.releases.specs.Peels.{numbered}
 use Rattle.releases.proofs.raised_by_word.Statement.{statement}
 use Rattle.releases.proofs.raised_by_word.Tie as tie
 
 abbrev Inv-loop : tie.InvT-loop
 Inv-loop tail first code rest₀ met₀ rest met =
-    (rest .bits < 2 ^ 64) × ((k : ℕ) → List·Memᴰ k (numbered first rest) → (k < maxJobs) × (at tail k + 1 < levelBound))
+    (rest .bits < 2 ^ 64) × ((k : ℕ) → List·Memᴰ k (numbered first rest) → (k < maxJobs) × (at tail k + 1 < slotBound))
     × (raisedOver (at tail) met (numbered first rest) ≡ raisedOver (at tail) met₀ (numbered first rest₀))
 
 abbrev μ-loop : tie.MeasureT-loop
@@ -33,13 +33,13 @@ turned c =
 known : (c : tie.After-lowest Inv-loop μ-loop)
     → let i = c .lowest .result in let a = c .before .before .before .before .args in
     (k : ℕ) → List·Memᴰ k ((a .first + i) ∷ numbered (a .first) (without (c .before .before .before .loop .rest) i))
-    → (k < maxJobs) × (at (a .tail .now) k + 1 < levelBound)
+    → (k < maxJobs) × (at (a .tail .now) k + 1 < slotBound)
 known c = rw (ap (map (c .before .before .before .before .args .first +_)) (turned c .first)) at (c .before .before .before .loop .inv .1)
 
 -- the next taker is an index, and its tail is small
 below : (c : tie.After-lowest Inv-loop μ-loop)
     → let k = c .before .before .before .before .args .first + c .lowest .result in
-    (k < maxJobs) × (at (c .before .before .before .before .args .tail .now) k + 1 < levelBound)
+    (k < maxJobs) × (at (c .before .before .before .before .args .tail .now) k + 1 < slotBound)
 below c = known c (c .before .before .before .before .args .first + c .lowest .result) (List·Memᴰ·head refl)
 
 loop-holds : tie.Need-loop-holds Inv-loop μ-loop

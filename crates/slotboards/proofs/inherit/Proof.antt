@@ -12,8 +12,8 @@ use Rattle.slotboards.specs.Placing.{filling, takes, giverAt}
 use Rattle.slotboards.proofs.inherit.Statement.{statement}
 use Rattle.slotboards.proofs.inherit.Tie as tie
 
-some-near : (c : tie.Else1) → let a = c .before .before .before .before .before .args in isEmpty (nearAt (tablesIn (a .tables .now)) (a .slot) (a .last) (a .p))
-    ≡ false
+some-near : (c : tie.Else1) → let a = c .before .before .before .before .before .args in
+    isEmpty (nearAt (tablesIn (a .tables .now)) (a .slot) (a .last) (a .p)) ≡ false
 some-near c = ap isEmpty (sym (c .before .before .near-at .ensures)) ∙ sym (c .before .is-empty .ensures) ∙ c .if1 .left
 
 giver : (c : tie.Else1) → let a = c .before .before .before .before .before .args in

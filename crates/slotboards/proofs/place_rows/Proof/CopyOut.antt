@@ -172,8 +172,8 @@ module _ {M : Type 1} (𝓤 : URA M) (H : Heap 𝓤) (A : Atoms 𝓤) (W : Given
       land ! (from ! (stop !)) (store ! 23 refl (LL.lawful U.the-type U′.the-laws 𝓤 H A W .typed t _ ist .0)) $ drop ! $
       assigns ! (of-opd ! (lit ! tt)) (from ! (stop !)) (store ! 20 refl (tt, record { fits = lit< tt })) $
       rewrite ! 3 (λ (l : List JobRecord). ‵ (row T.the-row fullShare l b o)) (sym (stored-none t ys)) refl $
-      keep ! (3 ∷ 4 ∷ 5 ∷ 6 ∷ 7 ∷ 8 ∷ 9 ∷ 10 ∷ 11 ∷ 12 ∷ 13 ∷ 14 ∷ 15 ∷ 16 ∷ 17 ∷ 18 ∷ 19 ∷ 20 ∷ 21 ∷ 22 ∷ 23 ∷ 24 ∷ 25 ∷ 26 ∷ 27 ∷ 28 ∷ 29 ∷ 30 ∷ 31 ∷ 32 ∷ 33
-      ∷ 34 ∷ 35 ∷ 36 ∷ 0 ∷ 1 ∷ 2 ∷ []) $
+      keep ! (3 ∷ 4 ∷ 5 ∷ 6 ∷ 7 ∷ 8 ∷ 9 ∷ 10 ∷ 11 ∷ 12 ∷ 13 ∷ 14 ∷ 15 ∷ 16 ∷ 17 ∷ 18 ∷ 19 ∷ 20 ∷ 21 ∷ 22 ∷ 23 ∷ 24 ∷ 25 ∷ 26 ∷ 27 ∷ 28 ∷ 29 ∷ 30 ∷ 31 ∷ 32 ∷
+      33 ∷ 34 ∷ 35 ∷ 36 ∷ 0 ∷ 1 ∷ 2 ∷ []) $
       by ! (writes-back 𝓤 H A W mem run p 𝓣 known-record k₀ t w ist (ended t e₁))))))
     where
       -- what is known of the result, for all the records

@@ -164,8 +164,8 @@ module _ {M : Type 1} (𝓤 : URA M) (H : Heap 𝓤) (A : Atoms 𝓤) (W : Given
       ∷ ‵ (Own₂ p) ∷ [])) (Post (vint w64 (c .count)))
   exits c e count-fits =
       qed W (‵ (fobs γ (codedHoleys T.the-row .code (heres T.the-row (stored c (length ys) ys))))
-      ∷ ‵ (fbor κ (Held T.the-row (length (stored c (length ys) ys)) b o γ)) ∷ ‵ (flft κ q) ∷ (‵ (flft κ′ q′) ⊛ (‵ (flft κ″ q″) ⊛ ‵ ftrue)) ∷ ‵ (Own p)
-      ∷ ‵ (Own₂ p) ∷ []) ∵
+      ∷ ‵ (fbor κ (Held T.the-row (length (stored c (length ys) ys)) b o γ)) ∷ ‵ (flft κ q) ∷ (‵ (flft κ′ q′) ⊛ (‵ (flft κ″ q″) ⊛ ‵ ftrue)) ∷ ‵ (Own p) ∷ ‵
+      (Own₂ p) ∷ []) ∵
       suffices ! _ (ends-at 𝓤 H A pr.ended stayed (pr.clauses 𝓤 H A mem run) W (
         ((κ, (κ′, (κ″, tt))), (q, (q′, (q″, tt))), tt, a p, vals p),
         tt,
@@ -193,8 +193,8 @@ module _ {M : Type 1} (𝓤 : URA M) (H : Heap 𝓤) (A : Atoms 𝓤) (W : Given
     abbrev pub Ctx : List JobRecord → ℕ → Val → List (Item 𝓤)
     Ctx l i v = ‵ (row T.the-row fullShare l b o) ∷ ‵ (froom ptr l₁₄ 0) ∷ ‵ (fdies ptr l₁₄) ∷ ‵ (froom rec l₁₃ 0) ∷ ‵ (fdies rec l₁₃) ∷ ‵ (froom flag l₁₂ 0)
         ∷ ‵ (fdies flag l₁₂) ∷ ‵ (froom word l₁₁ 0) ∷ ‵ (fdies word l₁₁)
-        ∷ ‵ (froom rec l₁₀ 0) ∷ ‵ (fdies rec l₁₀) ∷ ‵ (froom ptr l₉ 0) ∷ ‵ (fdies ptr l₉) ∷ ‵ (froom flag l₈ 0) ∷ ‵ (fdies flag l₈) ∷ ‵ (froom word l₇ 0)
-        ∷ ‵ (fdies word l₇)
+        ∷ ‵ (froom rec l₁₀ 0) ∷ ‵ (fdies rec l₁₀) ∷ ‵ (froom ptr l₉ 0) ∷ ‵ (fdies ptr l₉) ∷ ‵ (froom flag l₈ 0) ∷ ‵ (fdies flag l₈) ∷ ‵ (froom word l₇ 0) ∷ ‵
+        (fdies word l₇)
         ∷ ‵ (fat fullShare word l₆ 0 (vint w64 i)) ∷ ‵ (fdies word l₆) ∷ ‵ (fat fullShare arrays l₅ 0 v) ∷ ‵ (fdies arrays l₅)
         ∷ ‵ (fat fullShare word l₄ 0 (vint w64 slots)) ∷ ‵ (fdies word l₄)
         ∷ ‵ (fat fullShare bytes l₃ 0 (pp p)) ∷ ‵ (fdies bytes l₃) ∷ ‵ (fat fullShare words l₂ 0 (pg p)) ∷ ‵ (fdies words l₂)
