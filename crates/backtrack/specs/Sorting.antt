@@ -12,7 +12,7 @@ use Rattle.jobset.specs.Membership.{member-empty, in-one, in-union, in-intersec
 use Rattle.jobset.specs.Tests.{present}
 use Rattle.places.specs.Tables.{Tables}
 use Rattle.places.specs.Rows.{empty-says, Loose}
-use Rattle.places.specs.Slot.{Candidates, isForced, isTied, sortPlace, sortPlaces, candidatesOf, carried, candidatesAt, nearAt, ableOf, rowAt, in-row-at, in-forced}
+use Rattle.places.specs.Slot.{Candidates, isForced, isTied, sortCandidate, sortCandidates, candidatesOf, carried, candidatesAt, nearAt, ableOf, rowAt, in-row-at, in-forced}
 use Rattle.backtrack.specs.declared.Found.{Found}
 
 -- ---- the candidates with what is shared
@@ -52,22 +52,22 @@ foundAt A s here done ran = sortPlaces (A .prev s) done ran nothing (members (mi
 
 -- ---- they are the candidates
 
-plain-sort : (done ran : Set) (p : ℕ) (givers : Set) (c : Found) → plain (sortPlace done ran p givers c) ≡ sortPlace done ran p givers (plain c)
-unfolding sortPlace sortPlace choose
+plain-sort : (done ran : Set) (p : ℕ) (givers : Set) (c : Found) → plain (sortPlace done ran p givers c) ≡ sortCandidate done ran p givers (plain c)
+unfolding sortPlace sortCandidate choose
 plain-sort done ran p givers c = go (isForced done ran givers) refl (isTied done ran givers) refl
   where
     go : (f : Bool) → isForced done ran givers ≡ f → (t : Bool) → isTied done ran givers ≡ t
-        → plain (sortPlace done ran p givers c) ≡ sortPlace done ran p givers (plain c)
+        → plain (sortPlace done ran p givers c) ≡ sortCandidate done ran p givers (plain c)
     go true e t q = rw (e)
     go false e true q = rw (e, q)
     go false e false q = rw (e, q)
 
-plain-all : (givers : ℕ → Set) (done ran : Set) (ps : List ℕ) (c : Found) → plain (sortPlaces givers done ran c ps) ≡ sortPlaces givers done ran (plain c) ps
-unfolding sortPlaces sortPlaces
+plain-all : (givers : ℕ → Set) (done ran : Set) (ps : List ℕ) (c : Found) → plain (sortPlaces givers done ran c ps) ≡ sortCandidates givers done ran (plain c) ps
+unfolding sortPlaces sortCandidates
 plain-all givers done ran [] c = refl
 plain-all givers done ran (p ∷ ps) c =
     plain-all givers done ran ps (sortPlace done ran p (givers p) c)
-    ∙ ap (λ (x : Candidates). sortPlaces givers done ran x ps) (plain-sort done ran p (givers p) c)
+    ∙ ap (λ (x : Candidates). sortCandidates givers done ran x ps) (plain-sort done ran p (givers p) c)
 
 pub plain-found : (A : Tables) (s : ℕ) (done ran : Set) → plain (foundAt A s (carried A s done) done ran) ≡ candidatesAt A s done ran
 unfolding foundAt candidatesAt candidatesOf

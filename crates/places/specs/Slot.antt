@@ -34,21 +34,21 @@ unfoldable pub isTied : Set → Set → Set → Bool
 isTied done ran givers = isSubset givers done && isOne (intersection givers ran)
 
 -- one more place, with its givers: a candidate if forced or tied; the giver that a tied one has in the slot before is tying
-unfoldable pub sortPlace : Set → Set → ℕ → Set → Candidates → Candidates
-sortPlace done ran i givers c =
+unfoldable pub sortCandidate : Set → Set → ℕ → Set → Candidates → Candidates
+sortCandidate done ran i givers c =
     choose (isForced done ran givers) (record { forced = with (c .forced) i; tied = c .tied; tying = c .tying })
     (choose (isTied done ran givers) (record { forced = c .forced; tied = with (c .tied) i; tying = union (c .tying) (intersection givers ran) }) c)
 
-unfoldable pub sortPlaces : (ℕ → Set) → Set → Set → Candidates → List ℕ → Candidates
-sortPlaces givers done ran c [] = c
-sortPlaces givers done ran c (i ∷ is) = sortPlaces givers done ran (sortPlace done ran i (givers i) c) is
+unfoldable pub sortCandidates : (ℕ → Set) → Set → Set → Candidates → List ℕ → Candidates
+sortCandidates givers done ran c [] = c
+sortCandidates givers done ran c (i ∷ is) = sortCandidates givers done ran (sortCandidate done ran i (givers i) c) is
 
 abbrev pub noCandidates : Candidates
 noCandidates = record { forced = empty; tied = empty; tying = empty }
 
 -- the candidates among the places `free`
 unfoldable pub candidatesOf : (ℕ → Set) → Set → Set → Set → Candidates
-candidatesOf givers free done ran = sortPlaces givers done ran noCandidates (members free)
+candidatesOf givers free done ran = sortCandidates givers done ran noCandidates (members free)
 
 -- what is done of the places of slot s, before it: those of the slot before, without what has left
 unfoldable pub carried : Tables → ℕ → Set → Set
@@ -95,35 +95,35 @@ forced-not-tied done ran givers h = let w = and-eq-true-iff (isSubset givers don
 
 module _ (done ran : Set) where
   -- what one more place adds to each of the three sets
-  sort-forced : (i : ℕ) (g : Set) (c : Candidates) (x : ℕ) → member (sortPlace done ran i g c .forced) x
+  sort-forced : (i : ℕ) (g : Set) (c : Candidates) (x : ℕ) → member (sortCandidate done ran i g c .forced) x
       ≡ (member (c .forced) x || (isForced done ran g && eqb x i))
-  unfolding sortPlace choose
+  unfolding sortCandidate choose
   sort-forced i g c x = go (isForced done ran g) refl (isTied done ran g) refl
     where
-      go : (f : Bool) → isForced done ran g ≡ f → (t : Bool) → isTied done ran g ≡ t → member (sortPlace done ran i g c .forced) x
+      go : (f : Bool) → isForced done ran g ≡ f → (t : Bool) → isTied done ran g ≡ t → member (sortCandidate done ran i g c .forced) x
           ≡ (member (c .forced) x || (f && eqb x i))
       go true e t q = rw (e) (member-with (c .forced) i x)
       go false e true q = rw (e, q, or-false)
       go false e false q = rw (e, q, or-false)
 
-  sort-tied : (i : ℕ) (g : Set) (c : Candidates) (x : ℕ) → member (sortPlace done ran i g c .tied) x ≡ (member (c .tied) x || (isTied done ran g && eqb x i))
-  unfolding sortPlace choose
+  sort-tied : (i : ℕ) (g : Set) (c : Candidates) (x : ℕ) → member (sortCandidate done ran i g c .tied) x ≡ (member (c .tied) x || (isTied done ran g && eqb x i))
+  unfolding sortCandidate choose
   sort-tied i g c x = go (isForced done ran g) refl (isTied done ran g) refl
     where
-      go : (f : Bool) → isForced done ran g ≡ f → (t : Bool) → isTied done ran g ≡ t → member (sortPlace done ran i g c .tied) x
+      go : (f : Bool) → isForced done ran g ≡ f → (t : Bool) → isTied done ran g ≡ t → member (sortCandidate done ran i g c .tied) x
           ≡ (member (c .tied) x || (t && eqb x i))
       go true e true q = absurd (false≢true (sym (forced-not-tied done ran g e) ∙ q))
       go true e false q = rw (e, or-false)
       go false e true q = rw (e, q) (member-with (c .tied) i x)
       go false e false q = rw (e, q, or-false)
 
-  sort-tying : (i : ℕ) (g : Set) (c : Candidates) (x : ℕ) → member (sortPlace done ran i g c .tying) x
+  sort-tying : (i : ℕ) (g : Set) (c : Candidates) (x : ℕ) → member (sortCandidate done ran i g c .tying) x
       ≡ (member (c .tying) x || (isTied done ran g && member (intersection g ran) x))
-  unfolding sortPlace choose
+  unfolding sortCandidate choose
   sort-tying i g c x = go (isForced done ran g) refl (isTied done ran g) refl
     where
       go : (f : Bool) → isForced done ran g ≡ f → (t : Bool) → isTied done ran g ≡ t
-          → member (sortPlace done ran i g c .tying) x ≡ (member (c .tying) x || (t && member (intersection g ran) x))
+          → member (sortCandidate done ran i g c .tying) x ≡ (member (c .tying) x || (t && member (intersection g ran) x))
       go true e true q = absurd (false≢true (sym (forced-not-tied done ran g e) ∙ q))
       go true e false q = rw (e, or-false)
       go false e true q = rw (e, q) (member-union (c .tying) (intersection g ran) x)
@@ -131,12 +131,12 @@ module _ (done ran : Set) where
 
   -- so for all places: `part` is one of the three sets, `adds i g x` whether place i with givers g puts x into it
   module _ (givers : ℕ → Set) (part : Candidates → Set) (adds : ℕ → Set → ℕ → Bool)
-      (law : (i : ℕ) (g : Set) (c : Candidates) (x : ℕ) → member (part (sortPlace done ran i g c)) x ≡ (member (part c) x || adds i g x)) where
-    sorted : (is : List ℕ) (c : Candidates) (x : ℕ) → member (part (sortPlaces givers done ran c is)) x
+      (law : (i : ℕ) (g : Set) (c : Candidates) (x : ℕ) → member (part (sortCandidate done ran i g c)) x ≡ (member (part c) x || adds i g x)) where
+    sorted : (is : List ℕ) (c : Candidates) (x : ℕ) → member (part (sortCandidates givers done ran c is)) x
         ≡ (member (part c) x || any (λ i. adds i (givers i) x) is)
-    unfolding sortPlaces any
+    unfolding sortCandidates any
     sorted [] c x = rw (or-false)
-    sorted (i ∷ is) c x = rw (sorted is (sortPlace done ran i (givers i) c) x, law i (givers i) c x, or-assoc)
+    sorted (i ∷ is) c x = rw (sorted is (sortCandidate done ran i (givers i) c) x, law i (givers i) c x, or-assoc)
 
     in-sorted : (free : Set) (x : ℕ) → member (part noCandidates) x ≡ false
         → (member (part (candidatesOf givers free done ran)) x ≡ true) ↔ ((i : ℕ) × ((i < 64) × (member free i ≡ true)) × (adds i (givers i) x ≡ true))
