@@ -367,7 +367,8 @@ fn try_sets(
     path: &mut [u8; MAX_SLOTS],
 ) -> bool
     requires { ⌜ Opened (now tables) (length (now dead)) slot done ran × (here ≡ carried (tablesIn (now tables)) slot done) ⌝ }
-    ensures { λ r. ⌜ Told slot (slotTries (now (tables .entry)) slot done ran (now (dead .entry))) (now (path .entry)) r (now (path .exit)) (now (dead .exit)) ⌝ }
+    ensures { λ r. ⌜ Told slot (slotTries (now (tables .entry)) slot done ran (now (dead .entry)))
+        (now (path .entry)) r (now (path .exit)) (now (dead .exit)) ⌝ }
 {
     let c = candidates_at(tables, slot, here, done, ran);
     let forced = c.forced;
@@ -409,7 +410,8 @@ pub fn explore(
         × Reached (tablesIn (now tables)) (slotsIn (now tables)) (slotsIn (now tables) - slot) slot done ran
         × (isSubset (tablesIn (now tables) .due slot) done ≡ true) ⌝ }
     ensures found { λ r. ⌜ r ≡ exploredIn (now (tables .entry)) slot done ran (now (dead .entry)) .plan .ok ⌝ }
-    ensures path { λ _. ⌜ now (path .exit) ≡ written slot (exploredIn (now (tables .entry)) slot done ran (now (dead .entry)) .plan .sets) (now (path .entry)) ⌝ }
+    ensures path { λ _. ⌜ now (path .exit)
+        ≡ written slot (exploredIn (now (tables .entry)) slot done ran (now (dead .entry)) .plan .sets) (now (path .entry)) ⌝ }
     ensures dead { λ _. ⌜ now (dead .exit) ≡ exploredIn (now (tables .entry)) slot done ran (now (dead .entry)) .dead ⌝ }
 {
     if slot == fields::index(tables[SLOTS]) {

@@ -80,6 +80,6 @@ one-too-many n limit all a b =
     short = rw (same) (unfold field jobField in omega (arith, length-append (jobFields n) jobField, jobs-length n))
 
 -- it gets no schedule
-pub seven : scheduled (after (readFile (fileOf maxJobs [] maxLimit ++ jobField)) planTable) ≡ refused 7
+pub too-many-refused : scheduled (after (readFile (fileOf maxJobs [] maxLimit ++ jobField)) planTable) ≡ refused 7
 unfolding after scheduled
-seven = ap (λ (r : Answer JobFile). scheduled (after r planTable)) (one-too-many maxJobs maxLimit refl (omega arith) (omega arith))
+too-many-refused = ap (λ (r : Answer JobFile). scheduled (after r planTable)) (one-too-many maxJobs maxLimit refl (omega arith) (omega arith))

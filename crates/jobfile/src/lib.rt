@@ -189,7 +189,8 @@ fn take_field(
 ) -> Counts
     requires { ⌜ (c .fields < 65536) × (c .jobs ≤ maxJobs) × (at < 65536) × T (lengthOk tag (length (now v))) × (rowsSize ≤ length (now rows)) ⌝ }
     ensures { λ r. ⌜ (answerOf r (now (offsets .exit)) (now (rows .exit))
-        ≡ takeField (stateOf c (now (offsets .entry)) (now (rows .entry))) tag at (now (v .entry))) × (length (now (rows .exit)) ≡ length (now (rows .entry))) ⌝ }
+        ≡ takeField (stateOf c (now (offsets .entry)) (now (rows .entry))) tag at (now (v .entry)))
+        × (length (now (rows .exit)) ≡ length (now (rows .entry))) ⌝ }
 {
     if tag == 3 {
         return take_job(c, at, v, offsets, rows);

@@ -3,7 +3,7 @@
 // A job whose window is open has one of PLACES places, a bit of a byte: jobs enter by release, and each takes the lowest place that no job
 // with an open window has. None left is question 12. Jobs are counted from 0; 0 stands for no job where jobs are linked, and job + 1 for a job.
 //
-// The tables are those of crate layout.
+// A deadline, `last`, is the slot right behind a window. The tables are those of crate layout.
 use jobset::Set;
 use layout::DUE;
 use layout::ENDS;
