@@ -12,7 +12,8 @@ use Rattle.jobset.specs.Membership.{member-empty, in-one, in-union, in-intersec
 use Rattle.jobset.specs.Tests.{present}
 use Rattle.places.specs.Tables.{Tables}
 use Rattle.places.specs.Rows.{empty-says, Loose}
-use Rattle.places.specs.Slot.{Candidates, isForced, isTied, sortCandidate, sortCandidates, candidatesOf, carried, candidatesAt, nearAt, ableOf, rowAt, in-row-at, in-forced}
+use Rattle.places.specs.Slot.{Candidates, isForced, isTied, sortCandidate, sortCandidates, candidatesOf, carried, candidatesAt, nearAt, ableOf, rowAt}
+use Rattle.places.specs.Slot.{in-row-at, in-forced}
 use Rattle.backtrack.specs.declared.Found.{Found}
 
 -- ---- the candidates with what is shared
@@ -62,7 +63,8 @@ plain-sort done ran p givers c = go (isForced done ran givers) refl (isTied done
     go false e true q = rw (e, q)
     go false e false q = rw (e, q)
 
-plain-all : (givers : ℕ → Set) (done ran : Set) (ps : List ℕ) (c : Found) → plain (sortPlaces givers done ran c ps) ≡ sortCandidates givers done ran (plain c) ps
+plain-all : (givers : ℕ → Set) (done ran : Set) (ps : List ℕ) (c : Found)
+    → plain (sortPlaces givers done ran c ps) ≡ sortCandidates givers done ran (plain c) ps
 unfolding sortPlaces sortCandidates
 plain-all givers done ran [] c = refl
 plain-all givers done ran (p ∷ ps) c =

@@ -56,7 +56,8 @@ front-read limit zs a b =
     (ask-yes (knownTag 1) 4 _ tt ∙ ask-yes (inPlace 0 1) 5 _ tt ∙ ask-yes (lengthOk 1 1 && contentOk 1 (1 ∷ [])) 6 _ tt)
     ∙ readFrom-field 2 (limit ∷ []) zs (omega arith) (counted noFields)
     ∙ ap (λ (r : Answer JobFile). after r (readFrom zs 0))
-    (ask-yes (knownTag 2) 4 _ tt ∙ ask-yes (inPlace 1 2) 5 _ tt ∙ ask-yes (lengthOk 2 1 && contentOk 2 (limit ∷ [])) 6 _ (simp tests (omega arith, omega arith)))
+    (ask-yes (knownTag 2) 4 _ tt ∙ ask-yes (inPlace 1 2) 5 _ tt
+    ∙ ask-yes (lengthOk 2 1 && contentOk 2 (limit ∷ [])) 6 _ (simp tests (omega arith, omega arith)))
 
 -- six bytes for each job
 jobs-length : (n : ℕ) → length (jobFields n) ≡ 6 * n

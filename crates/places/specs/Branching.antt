@@ -24,7 +24,8 @@ use Rattle.jobset.specs.Tests.{absent, present, bool-ext}
 use Rattle.places.specs.Rows.{bit-low, empty-says, byNumber, Sorted, row-distinct, in-row, row-sorted, chosen, placesOf, in-places, Loose, isTry, is-try}
 use Rattle.places.specs.Rows.{picks, triedBelow}
 use Rattle.places.specs.Tables.{Tables}
-use Rattle.places.specs.Slot.{Candidates, isForced, carried, candidatesAt, nearAt, ableOf, rowAt, fitOf, mostOf, triesAt, in-forced, in-tied, candidates-held}
+use Rattle.places.specs.Slot.{Candidates, isForced, carried, candidatesAt, nearAt, ableOf, rowAt, fitOf, mostOf, triesAt, in-forced, in-tied}
+use Rattle.places.specs.Slot.{candidates-held}
 use Rattle.places.specs.Slot.{in-row-at, most-is}
 use Rattle.places.specs.Fit.{members-distinct, size-is, Ties, fit-most}
 use Rattle.places.specs.OneSet.{ties-at}

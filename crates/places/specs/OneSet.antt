@@ -15,7 +15,8 @@ use Rattle.jobset.specs.Inclusion.{subset-antisym}
 use Rattle.jobset.specs.OneMember.{is-one}
 use Rattle.places.specs.Rows.{empty-says, row-distinct, placesOf, in-places, Loose, whole-row, triedBelow}
 use Rattle.places.specs.Tables.{Tables}
-use Rattle.places.specs.Slot.{Candidates, isForced, isTied, carried, candidatesAt, nearAt, ableOf, rowAt, fitOf, mostOf, triesAt, in-forced, in-tied, Tying, in-tying}
+use Rattle.places.specs.Slot.{Candidates, isForced, isTied, carried, candidatesAt, nearAt, ableOf, rowAt, fitOf, mostOf, triesAt, in-forced, in-tied}
+use Rattle.places.specs.Slot.{Tying, in-tying}
 use Rattle.places.specs.Fit.{members-distinct, Ties, fit-most, fit-least}
 use Rattle.places.specs.Slot.{in-row-at, most-is}
 

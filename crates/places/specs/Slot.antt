@@ -106,7 +106,8 @@ module _ (done ran : Set) where
       go false e true q = rw (e, q, or-false)
       go false e false q = rw (e, q, or-false)
 
-  sort-tied : (i : ℕ) (g : Set) (c : Candidates) (x : ℕ) → member (sortCandidate done ran i g c .tied) x ≡ (member (c .tied) x || (isTied done ran g && eqb x i))
+  sort-tied : (i : ℕ) (g : Set) (c : Candidates) (x : ℕ)
+      → member (sortCandidate done ran i g c .tied) x ≡ (member (c .tied) x || (isTied done ran g && eqb x i))
   unfolding sortCandidate choose
   sort-tied i g c x = go (isForced done ran g) refl (isTied done ran g) refl
     where
