@@ -3,6 +3,7 @@ pub mod Sets
 pub mod Tests
 pub mod Digits
 pub mod Membership
+pub mod Bounds
 pub mod Inclusion
 pub mod Order
 pub mod FallingSubsets

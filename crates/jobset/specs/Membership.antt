@@ -1,6 +1,6 @@
 -- The members of what each operation gives. Assumes nothing.
 use mathlib.Core.Path.{_≡_, refl, ap, _∙_}
-use mathlib.Core.Bool.{true, false, not, _&&_, _||_, and-true, and-false, and-eq-true-iff, true≢false, false≢true}
+use mathlib.Core.Bool.{true, false, not, _&&_, _||_, and-true, and-false, or-true, or-false, and-eq-true-iff, true≢false, false≢true}
 use mathlib.Core.Logic.{_↔_, _⊎_}
 use Prim.Native.Nat.{ℕ, _^_, min, max}
 use native.Mathlib.Decide.{ℕ-discrete}
@@ -67,6 +67,14 @@ pub in-minus : (s t : Set) (j : ℕ) → (member (minus s t) j ≡ true) ↔ ((m
 in-minus s t j = simp (member-minus, and-eq-true-iff, not-true-iff) (λ h. h, λ h. h)
 
 -- ---- more
+
+-- i is a member of s with i
+pub with-same : (s : Set) (i : ℕ) → member (with s i) i ≡ true
+with-same s i = rw (member-with s i i, eq-eqb i i refl) (or-true (member s i))
+
+-- every other place is a member of s with i where it is one of s
+pub with-other : (s : Set) (i j : ℕ) → (j ≡ i → ⊥) → member (with s i) j ≡ member s j
+with-other s i j n = rw (member-with s i j, ne-eqb j i n) (or-false (member s j))
 
 -- i is no member of s without i
 pub without-same : (s : Set) (i : ℕ) → member (without s i) i ≡ false

@@ -23,6 +23,7 @@ use Rattle.rules.specs.SmallGates.{fewest, slotsIn, plannedSlots}
 use Rattle.laws.specs.Tests.{T-leb, tests}
 use Rattle.laws.specs.Lists.{filter-mem⁻¹, length-filter, length-tabulate, tabulate-last}
 use Rattle.laws.specs.Counting.{length-range, distinct-before}
+use Rattle.laws.specs.Writing.{length-joined}
 use Rattle.laws.specs.Numbers.{bytes-join}
 use Rattle.laws.specs.Fields.{ask-yes, bytes-field, overFields-end}
 use Rattle.laws.specs.JobFile.{place-same, readable}
@@ -134,15 +135,13 @@ needs-read n (d ∷ ds) es between u =
 
 -- a need takes five bytes
 pub length-needs : (ds : List Need) → length (joined needField ds) ≡ 5 * length ds
-unfolding joined needField field
-length-needs [] = refl
-length-needs (d ∷ ds) = omega (arith, length-needs ds)
+unfolding needField field
+length-needs ds = length-joined needField 5 (λ d. refl) ds
 
 -- a job takes six
 pub length-jobs : (c i : ℕ) → length (joined jobField (range c i)) ≡ 6 * c
-unfolding joined range jobField field
-length-jobs zero i = refl
-length-jobs (suc c) i = omega (arith, length-jobs c (suc i))
+unfolding jobField field
+length-jobs c i = length-joined jobField 6 (λ j. refl) (range c i) ∙ ap (6 *_) (length-range c i)
 
 -- header and limit take four each
 pub gate-file-length : (n m : ℕ) → length (gateFile n m) ≡ 8 + 6 * n + 5 * length (needsOf n m)

@@ -13,7 +13,7 @@ use Rattle.rules.specs.Basics.{count, most}
 use Rattle.rules.specs.Needs.{Need, NeedsIn, Circle}
 use Rattle.rules.specs.JobFile.{JobFile}
 use Rattle.rules.specs.Windows.{Formula1, Formula2, release, tail, Holds, holdsb, widthOf, width}
-use Rattle.laws.specs.Tests.{T-and, tests}
+use Rattle.laws.specs.Tests.{T-and, tests, bool-ext}
 use Rattle.laws.specs.Counting.{count-le, most-ge, most-le}
 use Rattle.laws.specs.Releases.{release-only}
 use Rattle.laws.specs.Deadlines.{holds-is, deadline-only}
@@ -47,19 +47,29 @@ most-mono p q n C L l f = most-le (λ s. count (p s) n) C (most (λ s. count (q 
 most-same : (p q : ℕ → ℕ → Bool) (n L : ℕ) → ((s i : ℕ) → i < n → T (p s i) ↔ T (q s i)) → most (λ s. count (p s) n) L ≡ most (λ s. count (q s) n) L
 most-same p q n L f = omega (arith, most-mono p q n L L (omega arith) (λ s i h. f s i h .0), most-mono q p n L L (omega arith) (λ s i h. f s i h .1))
 
+-- a date that is the release, and one that is the limit less the tail: the window holds the same slots
+holds-window : (n : ℕ) (needs : List Need) (L : ℕ) (r : ℕ → ℕ) (d : ℕ → ℤ) (s i : ℕ) → r i ≡ release n needs i → d i ≡ pos L -ℤ pos (tail n needs i)
+    → T (holdsb r d s i) ↔ T (window (release n needs) (tail n needs) L s i)
+holds-window n needs L r d s i hr hd = (
+  λ t. window-is (release n needs) (tail n needs) L s i .1
+      (holds-is L (release n needs i) (tail n needs i) s .0 (rw (← hr, ← hd) (holdsb-is r d s i .0 t))),
+  λ t. holdsb-is r d s i .1
+      (rw (hr, hd) (holds-is L (release n needs i) (tail n needs i) s .1 (window-is (release n needs) (tail n needs) L s i .0 t))),
+)
+
+-- the test of a file's window, over the natural numbers
+pub file-window : (n : ℕ) (needs : List Need) (L s i : ℕ)
+    → holdsb (release n needs) (λ j. pos L -ℤ pos (tail n needs j)) s i ≡ window (release n needs) (tail n needs) L s i
+file-window n needs L s i =
+    let w = holds-window n needs L (release n needs) (λ j. pos L -ℤ pos (tail n needs j)) s i refl refl in bool-ext _ _ (w .0) (w .1)
+
 -- dates that are the release and the limit less the tail, below n
 pub windows-width : (n : ℕ) (needs : List Need) (L : ℕ) (r : ℕ → ℕ) (d : ℕ → ℤ)
     → ((i : ℕ) → i < n → r i ≡ release n needs i) → ((i : ℕ) → i < n → d i ≡ pos L -ℤ pos (tail n needs i))
     → widthOf n r d L ≡ most (λ s. count (window (release n needs) (tail n needs) L s) n) L
 unfolding widthOf
-windows-width n needs L r d hr hd = most-same (holdsb r d) (window (release n needs) (tail n needs) L) n L (λ s i h. (
-  λ t. window-is (release n needs) (tail n needs) L s i .1
-      (holds-is L (release n needs i) (tail n needs i) s .0 (rw (← (hr i h), ← (hd i h)) (holdsb-is r d s i .0 t))),
-  λ t. holdsb-is r d s i .1 (rw (
-    hr i h,
-    hd i h,
-  ) (holds-is L (release n needs i) (tail n needs i) s .1 (window-is (release n needs) (tail n needs) L s i .0 t))),
-))
+windows-width n needs L r d hr hd =
+    most-same (holdsb r d) (window (release n needs) (tail n needs) L) n L (λ s i h. holds-window n needs L r d s i (hr i h) (hd i h))
 
 -- the width over the natural numbers
 pub width-window : (n : ℕ) (needs : List Need) (L : ℕ) → width n needs L ≡ most (λ s. count (window (release n needs) (tail n needs) L s) n) L

@@ -2,8 +2,9 @@
 use mathlib.Core.Path.{_≡_, refl, sym, ap, ap₂, _∙_}
 use mathlib.Core.Bool.{Bool, true, false}
 use mathlib.Core.List.{List, [], _∷_, _++_, map, append-assoc, List·Memᴰ, List·Memᴰ·head, List·Memᴰ·tail}
-use Prim.Native.Nat.{ℕ, suc, _+_, _-_, _≤_, _<_}
+use Prim.Native.Nat.{ℕ, suc, _+_, _-_, _*_, _≤_, _<_}
 use native.Mathlib.Omega.{arith}
+use native.Mathlib.Nat.{mul-zero, mul-suc}
 use native.Mathlib.Numerals.{add-one}
 use lib.ListN.{length, set, take, drop, length-set, length-append, take-append-drop}
 use lib.Seq.{take-suc-set, drop-set-lt}
@@ -72,6 +73,13 @@ pub joined-append : {A : Type 0} (f : A → List ℕ) (xs ys : List A) → joine
 unfolding joined
 joined-append f [] ys = refl
 joined-append f (x ∷ xs) ys = ap (λ (l : List ℕ). f x ++ l) (joined-append f xs ys) ∙ sym (append-assoc (f x) (joined f xs) (joined f ys))
+
+-- each gives c entries
+pub length-joined : {A : Type 0} (f : A → List ℕ) (c : ℕ) → ((x : A) → length (f x) ≡ c) → (xs : List A) → length (joined f xs) ≡ c * length xs
+unfolding joined
+length-joined f c h [] = omega (arith, mul-zero c)
+length-joined f c h (x ∷ xs) =
+    omega (arith, length-append (f x) (joined f xs), h x, length-joined f c h xs, mul-suc c (length xs))
 
 -- ---- piece by piece
 

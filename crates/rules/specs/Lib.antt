@@ -11,5 +11,7 @@ pub mod Preference
 pub mod Boards
 pub mod Table
 pub mod Answers
+pub mod Reports
+pub mod States
 pub mod Implied
 pub mod SmallGates

@@ -32,3 +32,7 @@ tableSize = 7606
 -- two entries for each need that a file has room for: a need takes five bytes or more (document 02, request 5; law `list-fits`)
 abbrev pub pairsSize : ℕ
 pairsSize = 19660
+
+-- two bytes for the state number of each slot that a table may have (document 02, request 11)
+abbrev pub statesSize : ℕ
+statesSize = 128

@@ -1,22 +1,18 @@
 -- Sets of places below 8 as numbers below 256, and the lowest place that such a set leaves. Assumes nothing.
-use mathlib.Core.Path.{_≡_, refl, sym, ap, _∙_}
-use mathlib.Core.Bool.{Bool, true, false, false≢true}
-use Prim.Native.Nat.{ℕ, _%_, _^_, _≤_, _<_}
-use native.Mathlib.Nat.{div-eq-of-lt, lt-of-lt-of-le}
+use mathlib.Core.Path.{_≡_, refl, ap, _∙_}
+use mathlib.Core.Bool.{Bool, true, false}
+use Prim.Native.Nat.{ℕ, _^_, _≤_, _<_}
 use native.Mathlib.Omega.{arith}
-use native.Mathlib.Decide.{decLt}
 use borrow.Author.Tests.{eqb-true}
-use lib.Bits.{or-lt}
-use lib.Dec.{eqb}
-use lib.Pow.{pow-mono, pow-lt}
 use Rattle.rules.specs.Sizes.{maxWidth}
 use Rattle.rules.specs.Basics.{all, range}
 use Rattle.laws.specs.Tests.{T-true, T-all}
 use Rattle.laws.specs.Counting.{range-below}
 use Rattle.jobset.specs.declared.Set.{Set}
-use Rattle.jobset.specs.Sets.{digit, member, empty, one, union, with, minus, isEmpty, lowest}
+use Rattle.jobset.specs.Sets.{digit, member, empty, minus, isEmpty, lowest}
 use Rattle.jobset.specs.Inclusion.{minus-subset, subset-le}
 use Rattle.jobset.specs.Membership.{in-minus, member-empty}
+use Rattle.jobset.specs.Bounds.{member-lt}
 use Rattle.jobset.specs.Lowest.{below-lowest, lowest-member}
 use Rattle.jobset.specs.Tests.{present}
 use Rattle.threes.specs.Threes.{Eight}
@@ -27,23 +23,11 @@ use Rattle.layout.specs.Layout.{placeSets}
 pub same-set : {x y : ℕ} → x ≡ y → _≡_ {A = Set} (record { bits = x }) (record { bits = y })
 same-set e = ap (λ (z : ℕ). record { bits = z }) e
 
--- a set of places below w is a number below 2 ^ w: with one more, without some
-pub with-lt : (w : ℕ) (S : Set) (p : ℕ) → S .bits < 2 ^ w → p < w → with S p .bits < 2 ^ w
-unfolding with union one
-with-lt w S p h l = or-lt w (S .bits) (2 ^ p) h (pow-lt l)
-
+-- without some places a set is no greater number
 pub minus-le : (S R : Set) → minus S R .bits ≤ S .bits
 minus-le S R = subset-le (minus S R) S (minus-subset S R)
 
--- a number below 2 ^ w has no member from w up
-pub member-lt : (w : ℕ) (S : Set) → S .bits < 2 ^ w → (p : ℕ) → member S p ≡ true → p < w
-unfolding member digit
-member-lt w S h p m = go (decLt p w)
-  where
-    go : Dec (p < w) → p < w
-    go (yes l) = l
-    go (no l) = absurd (false≢true (sym (ap (λ (x : ℕ). eqb (x % 2) 1) (div-eq-of-lt (lt-of-lt-of-le h (pow-mono {i = w} {j = p} (omega arith))))) ∙ m))
-
+-- a byte has no member from 8 up
 pub byte-eight : (S : Set) → S .bits < placeSets → Eight S
 byte-eight S h = member-lt maxWidth S h
 

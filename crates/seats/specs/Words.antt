@@ -12,7 +12,8 @@ use Rattle.jobset.specs.declared.Set.{Set}
 use Rattle.jobset.specs.Sets.{setAt, with}
 use Rattle.layout.specs.Layout.{heldAt, endsAt, marksAt, prevAt, whoAt, slotsAt, threeAt, tableWords, ThreesIn, placeSets}
 use Rattle.threes.specs.Threes.{entry}
-use Rattle.seats.specs.Bytes.{same-set, with-lt}
+use Rattle.jobset.specs.Bounds.{with-lt}
+use Rattle.seats.specs.Bytes.{same-set}
 
 -- what holds of the new number, where it is read, and of the old one, holds of what stands there
 pub at-set : (P : ℕ → Type 0) (l : List ℕ) (k v j : ℕ) → (j ≡ k → P v) → P (at l j) → P (at (set l k v) j)

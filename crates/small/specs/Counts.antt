@@ -14,6 +14,7 @@ use Rattle.rules.specs.SmallGates.{bit, needBit, pairs, needsOf, gateb, gates, 
 use Rattle.laws.specs.Tests.{tests, T-and, bool-ext}
 use Rattle.laws.specs.Lists.{filter-same}
 use Rattle.laws.specs.Counting.{range-below}
+use Rattle.laws.specs.Writing.{length-joined}
 use Rattle.laws.specs.SmallGates.{no-self}
 
 -- ---- "There are 1, 3, 25 and 543 of them"
@@ -64,9 +65,8 @@ all-lines =
 
 -- three numbers each
 line-entries : (ls : List GateLine) → length (joined lineNumbers ls) ≡ 3 * length ls
-unfolding joined lineNumbers
-line-entries [] = refl
-line-entries (l ∷ ls) = omega (arith, line-entries ls)
+unfolding lineNumbers
+line-entries ls = length-joined lineNumbers 3 (λ l. refl) ls
 
 pub all-entries : length (joined lineNumbers smallGates) ≡ 1716
 all-entries = omega (arith, line-entries smallGates, all-lines)

@@ -1,18 +1,18 @@
 -- The number of a state of a slot in base three, by a table of 256 entries: the entry for a byte is the sum of 3 ^ k over its set bits k
 -- (request 11). With it the number of a state is the entry for done plus the entry for ran. Assumes nothing.
-use mathlib.Core.Path.{_≡_, refl, sym, _∙_}
+use mathlib.Core.Path.{_≡_, refl, sym, ap₂, _∙_}
 use mathlib.Core.Bool.{Bool, true, false, false≢true}
-use Prim.Native.Nat.{ℕ, zero, suc, _+_, _-_, _*_, _^_, _<_}
+use Prim.Native.Nat.{ℕ, zero, suc, _+_, _-_, _*_, _^_, _≤_, _<_}
 use native.Mathlib.Nat.{pow-suc}
-use native.Mathlib.Decide.{decLt}
+use native.Mathlib.Decide.{decLt, ℕ-discrete}
 use native.Mathlib.Omega.{arith}
 use lib.Dec.{T, eqb, lit<}
 use Rattle.rules.specs.Basics.{choose, all, range}
 use Rattle.laws.specs.Tests.{T-all, T-eqb}
 use Rattle.laws.specs.Counting.{range-below}
 use Rattle.jobset.specs.declared.Set.{Set}
-use Rattle.jobset.specs.Sets.{member, Subset}
-use Rattle.jobset.specs.Membership.{set-ext}
+use Rattle.jobset.specs.Sets.{member, with, Subset}
+use Rattle.jobset.specs.Membership.{with-same, with-other, set-ext}
 use Rattle.jobset.specs.Tests.{absent}
 
 -- ---- the sum of 3 ^ k over the members k of a set
@@ -29,6 +29,25 @@ threes S = threesTo 8 S
 -- the number of a state: done by the end of the slot, and ran in it
 unfoldable pub numberOf : Set → Set → ℕ
 numberOf done ran = threes done + threes ran
+
+module _ (S : Set) (k : ℕ) where
+  -- a member from w up is not counted
+  threes-beyond : (w : ℕ) → w ≤ k → threesTo w (with S k) ≡ threesTo w S
+  unfolding threesTo
+  threes-beyond zero h = refl
+  threes-beyond (suc w) h =
+      ap₂ (λ (x : ℕ) (b : Bool). x + choose b (3 ^ w) 0) (threes-beyond w (omega arith)) (with-other S k w (λ e. omega arith))
+
+  -- a new member counts 3 to its power
+  pub threes-with : (w : ℕ) → k < w → member S k ≡ false → threesTo w (with S k) ≡ threesTo w S + 3 ^ k
+  unfolding threesTo
+  threes-with zero h new = absurd (omega arith)
+  threes-with (suc w) h new = go (ℕ-discrete w k) (λ l. threes-with w l new)
+    where
+      go : Dec (w ≡ k) → (k < w → threesTo w (with S k) ≡ threesTo w S + 3 ^ k)
+          → threesTo w (with S k) + choose (member (with S k) w) (3 ^ w) 0 ≡ threesTo w S + choose (member S w) (3 ^ w) 0 + 3 ^ k
+      go (yes e) rest = rw e (unfold choose in rw (with-same S k, new, threes-beyond k (omega arith)) (omega arith))
+      go (no n) rest = rw (with-other S k w n) (omega (arith, rest (omega arith)))
 
 -- ---- the table of 256 numbers
 

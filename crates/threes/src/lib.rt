@@ -1,8 +1,11 @@
 // The constant table of base-three numbers (document 02, request 11): the entry for a byte is the sum of 3 to the power k over its set bits k.
-// With it the number of a state of a slot, one digit for each of eight places, is the sum of two entries.
+// With it the number of a state of a slot, one digit for each of eight places or ranks, is the sum of two entries: the search marks its states by
+// such numbers, and the service screen shows them.
+ghost use mathlib.Core.Path.{_≡_};
+ghost use Rattle.threes.specs.Threes.{entry};
 
 // Entry b is for the byte b.
-pub const THREES: [u16; 256] = [
+const THREES: [u16; 256] = [
     0,
     1,
     3,
@@ -260,3 +263,11 @@ pub const THREES: [u16; 256] = [
     3279,
     3280,
 ];
+
+// The entry for a byte.
+pub fn entry(byte: u8) -> u16
+    ensures { λ r. ⌜ r ≡ entry byte ⌝ }
+{
+    let entries = THREES;
+    entries[byte as usize]
+}

@@ -5,7 +5,7 @@ use borrow.Author.Needs.{needs}
 use lib.ListN.{set}
 use Rattle.jobset.specs.Sets.{setAt, with}
 use Rattle.jobset.specs.declared.Set.{Set}
-use Rattle.seats.specs.Bytes.{with-lt}
+use Rattle.jobset.specs.Bounds.{with-lt}
 use Rattle.seats.specs.Words.{withPlace}
 use Rattle.seats.proofs.add_place.Statement.{statement}
 use Rattle.seats.proofs.add_place.Tie as tie

@@ -8,7 +8,7 @@ use lib.ListN.{set}
 use Rattle.laws.specs.Tests.{T-leb, choose-yes, choose-no}
 use Rattle.jobset.specs.Sets.{setAt, with}
 use Rattle.jobset.specs.declared.Set.{Set}
-use Rattle.seats.specs.Bytes.{with-lt}
+use Rattle.jobset.specs.Bounds.{with-lt}
 use Rattle.seats.specs.Give.{gave}
 use Rattle.seats.specs.Words.{withPlace}
 use Rattle.seats.proofs.give.Statement.{statement}

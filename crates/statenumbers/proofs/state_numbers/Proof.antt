@@ -1,0 +1,88 @@
+-- `statenumbers::state_numbers` meets its contract. Assumes nothing.
+use borrow.Author.Needs.{needs}
+use lib.Seq.{length-take-le}
+use Rattle.statenumbers.specs.Answer.{PlanCalled, short-states, same-outcome, refusal-leaves, planned-for, size-in, reports}
+use mathlib.Core.Path.{refl, sym}
+use Rattle.statenumbers.proofs.state_numbers.Statement.{statement}
+use Rattle.statenumbers.proofs.state_numbers.Tie as tie
+
+-- from the planner's answer to the start
+abbrev to-start : tie.After-plan → tie.Start
+to-start c = c .before .before .before .before .before .before .before .before
+
+-- what the planner was lent, and what it left
+abbrev called : tie.After-plan → PlanCalled
+called c =
+    let a = to-start c .args in
+    record {
+      file = a .file .now;
+      work = a .work .now;
+      table = a .table .now;
+      states = a .states .now;
+      answer = c .plan .result;
+      work-left = c .plan .last .1 .0;
+      table-left = c .plan .last .1 .1 .0;
+      room = c .before .before .before .if1 .left;
+      answered = c .plan .ensures;
+    }
+
+returns : tie.Need-returns
+returns c = short-states _ _ _ _ (c .if1 .taken)
+
+plan-requires : tie.Need-plan-requires
+plan-requires c κs = search needs
+
+enum-known-p : tie.Need-enum-known-p
+enum-known-p c = search needs
+
+enum-told : tie.Need-enum-told
+enum-told c = search needs
+
+same-length : tie.Need-same-length
+same-length c = search needs
+
+same-length-2 : tie.Need-same-length-2
+same-length-2 c = search needs
+
+returns-2 : tie.Need-returns-2
+returns-2 c = (same-outcome (called (c .before .before .before .before .before .before)) _ refl, refusal-leaves (called (c .before .before .before .before .before .before)) _ (c .enum-told .given .1))
+
+slice-reshare-prefix-put-states : tie.Need-slice-reshare-prefix-put-states
+slice-reshare-prefix-put-states c = size-in (called (c .before .before .before .before .before .before .before)) _ (c .before .p .given .1)
+
+slice-aggregate-put-states : tie.Need-slice-aggregate-put-states
+slice-aggregate-put-states c = sym (length-take-le _ _ (size-in (called (c .before .before .before .before .before .before .before .before)) _ (c .before .before .p .given .1)))
+
+put-states-requires : tie.Need-put-states-requires
+put-states-requires c κs = (planned-for (called (c .before .before .before .before .before .before .before .before .before)) _ (c .before .before .before .p .given .1), c .before .before .before .before .before .before .before .before .before .before .before .before .if1 .left)
+
+same-length-3 : tie.Need-same-length-3
+same-length-3 c = search needs
+
+same-length-4 : tie.Need-same-length-4
+same-length-4 c = search needs
+
+same-length-5 : tie.Need-same-length-5
+same-length-5 c = search needs
+
+returns-3 : tie.Need-returns-3
+returns-3 c = (same-outcome (called (c .before .before .before .before .before .before .before .before .before .before .before .before)) _ (c .before .before .before .before .before .before .p .given .1), reports (called (c .before .before .before .before .before .before .before .before .before .before .before .before)) _ (c .before .before .before .before .before .before .p .given .1) _ (c .before .before .put-states .ensures))
+
+pub state-numbers-spec : {M : Type 1} → statement M
+state-numbers-spec =
+    tie.close
+    (tie.spec
+    returns
+    plan-requires
+    enum-known-p
+    enum-told
+    same-length
+    same-length-2
+    returns-2
+    slice-reshare-prefix-put-states
+    slice-aggregate-put-states
+    put-states-requires
+    same-length-3
+    same-length-4
+    same-length-5
+    returns-3)
