@@ -9,9 +9,11 @@ use Rattle.rules.specs.Basics.{at}
 use Rattle.rules.specs.Fields.{Answer, refused, got, numberOf, part}
 use Rattle.rules.specs.Table.{Table, rowStart}
 use Rattle.rules.specs.Answers.{Outcome, plan, lookup, nameSpan, nameAt}
+use Rattle.rules.specs.States.{planStates}
 use Rattle.laws.specs.Tests.{T-eqb, choose-yes, choose-no}
 use Rattle.laws.specs.Numbers.{bytes-all}
 use Rattle.laws.specs.Demands.{plan-size, table-has-bytes}
+use Rattle.laws.specs.States.{states-each}
 use Rattle.planner.specs.Planner.{outcomeOf}
 use Rattle.planner.specs.declared.Planned.{Planned}
 use Rattle.planner.specs.declared.Planned.the-variants as planned
@@ -19,33 +21,44 @@ use Rattle.table.specs.Entries.{verdictOf, foundOf, placeOf}
 use Rattle.table.specs.Names.{name-lies}
 use Rattle.gate.specs.Numbers.{planNumber, plannedNumber, plannedSize, verdictNumber, foundNumber, refusalNumber, placeNumber, lookupNumber, nameNumber}
 
--- the planner's answer p leaves the buffers work′ and table′
-module _ (file work table : List ℕ) (p : Planned) (work′ table′ : List ℕ) (answered : outcomeOf p work′ table′ ≡ plan file work table) where
+-- the answer p leaves the buffers work′ and table′: together they are the outcome o
+module _ (o : Outcome) (p : Planned) (work′ table′ : List ℕ) (answered : outcomeOf p work′ table′ ≡ o) where
   abbrev Answered : ℕ → Type 0
-  Answered r = (r ≡ planNumber (plan file work table)) × ((work′ ≡ plan file work table .work) × (table′ ≡ plan file work table .table))
+  Answered r = (r ≡ planNumber o) × ((work′ ≡ o .work) × (table′ ≡ o .table))
 
-  -- a table: its length, which is small
+  outcome-by : (q : Planned) → p ≡ q → outcomeOf q work′ table′ ≡ o
+  outcome-by q e = subst (λ (x : Planned). outcomeOf x work′ table′ ≡ o) e answered
+
+  -- a table: its length
   pub table-number : (k : ℕ) → p ≡ planned.Table k → Answered k
   unfolding planNumber
   table-number k e =
-      let h : outcomeOf (planned.Table k) work′ table′
-      ≡ plan file work table = subst (λ (q : Planned). outcomeOf q work′ table′ ≡ plan file work table) e answered in
-      (sym (ap planNumber (sym h) ∙ choose-yes _ _ _ (T-eqb 0 0 .1 refl)), (ap (λ (o : Outcome). o .work) h, ap (λ (o : Outcome). o .table) h))
+      let h = outcome-by (planned.Table k) e in
+      (sym (ap planNumber (sym h) ∙ choose-yes _ _ _ (T-eqb 0 0 .1 refl)), (ap (λ (x : Outcome). x .work) h, ap (λ (x : Outcome). x .table) h))
 
-  pub table-few : (k : ℕ) → p ≡ planned.Table k → ((i : ℕ) → at file i < 256) → k ≤ tableSize
-  table-few k e b =
-      let h : outcomeOf (planned.Table k) work′ table′
-      ≡ plan file work table = subst (λ (q : Planned). outcomeOf q work′ table′ ≡ plan file work table) e answered in
-      omega (arith, ap (λ (o : Outcome). o .size) h, plan-size file work table (bytes-all file b))
+  pub table-size : (k : ℕ) → p ≡ planned.Table k → k ≡ o .size
+  table-size k e = ap (λ (x : Outcome). x .size) (outcome-by (planned.Table k) e)
 
   -- a refusal: its number is not 0, since a table has bytes
-  pub refusal-number : (q : ℕ) → p ≡ planned.Refused q → Answered (65536 + q)
+  pub refusal-number : (o .number ≡ 0 → 0 < o .size) → (q : ℕ) → p ≡ planned.Refused q → Answered (65536 + q)
   unfolding planNumber
-  refusal-number q e =
-      let h : outcomeOf (planned.Refused q) work′ table′
-      ≡ plan file work table = subst (λ (r : Planned). outcomeOf r work′ table′ ≡ plan file work table) e answered in
-      let n : q ≡ 0 → ⊥ = λ z. omega (arith, ap (λ (o : Outcome). o .size) h, table-has-bytes file work table (sym (ap (λ (o : Outcome). o .number) h) ∙ z)) in
-      (sym (ap planNumber (sym h) ∙ choose-no _ _ _ (λ t. n (T-eqb q 0 .0 t))), (ap (λ (o : Outcome). o .work) h, ap (λ (o : Outcome). o .table) h))
+  refusal-number has-bytes q e =
+      let h = outcome-by (planned.Refused q) e in
+      let n : q ≡ 0 → ⊥ = λ z. omega (arith, ap (λ (x : Outcome). x .size) h, has-bytes (sym (ap (λ (x : Outcome). x .number) h) ∙ z)) in
+      (sym (ap planNumber (sym h) ∙ choose-no _ _ _ (λ t. n (T-eqb q 0 .0 t))), (ap (λ (x : Outcome). x .work) h, ap (λ (x : Outcome). x .table) h))
+
+-- the length of a table is small, and that of a table with state numbers
+pub plan-few : (file work table : List ℕ) → ((i : ℕ) → at file i < 256) → plan file work table .size ≤ tableSize
+plan-few file work table b = plan-size file work table (bytes-all file b)
+
+pub states-few : (file work table states : List ℕ) → ((i : ℕ) → at file i < 256) → planStates file work table states .outcome .size ≤ tableSize
+states-few file work table states b =
+    states-each file work table states (λ (o : Outcome). o .size ≤ tableSize) (plan-few file work table b) (omega arith)
+
+pub states-have-bytes : (file work table states : List ℕ) → planStates file work table states .outcome .number ≡ 0
+    → 0 < planStates file work table states .outcome .size
+states-have-bytes file work table states =
+    states-each file work table states (λ (o : Outcome). o .number ≡ 0 → 0 < o .size) (table-has-bytes file work table) (λ z. absurd (omega arith))
 
 -- the number and the size in the planner's answer are those of the rules' outcome
 pub planned-number : (p : Planned) (work table : List ℕ) (o : Outcome) → outcomeOf p work table ≡ o → (plannedNumber p ≡ o .number) × (plannedSize p ≡ o .size)

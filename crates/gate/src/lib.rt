@@ -1,8 +1,9 @@
-// The public library: the planner, the check, the lookup and the name, and the forms of them that C and Rust call.
+// The public library: the planner, the check, the lookup, the name and the state numbers, and the forms of them that C and Rust call.
 //
 // A form for C takes a slice as a pointer and a length, and gives its answer as one number.
 pub use planner::Planned;
 pub use planner::plan;
+pub use statenumbers::state_numbers;
 pub use table::Found;
 use table::Place;
 pub use table::Verdict;
@@ -12,6 +13,7 @@ pub use table::name;
 ghost use mathlib.Core.Path.{_≡_};
 ghost use Rattle.rules.specs.Fields.{numberOf};
 ghost use Rattle.rules.specs.Answers.{plan as Answers·plan, check as Answers·check, lookup as Answers·lookup};
+ghost use Rattle.rules.specs.States.{planStates};
 ghost use Rattle.gate.specs.Numbers.{planNumber, lookupNumber, nameNumber};
 
 // The length of the table; or 65536 and the number of the question that said no.
@@ -22,6 +24,27 @@ pub extern "C" fn gate_plan(file: &[u8], work: &mut [u8], table: &mut [u8]) -> u
     ensures { λ _. ⌜ now (table .exit) ≡ Answers·plan (now (file .entry)) (now (work .entry)) (now (table .entry)) .table ⌝ }
 {
     let p = plan(file, work, table);
+    match p {
+        Planned::Table(size) => size as u32,
+        Planned::Refused(number) => 65536 + (number as u32),
+    }
+}
+
+// As gate_plan, and for a table the state number of each slot, two bytes each, low byte first; 65536 and 1 where there are fewer than 128 bytes for
+// them.
+#[no_mangle]
+pub extern "C" fn gate_states(
+    file: &[u8],
+    work: &mut [u8],
+    table: &mut [u8],
+    states: &mut [u8],
+) -> u32
+    ensures { λ r. ⌜ r ≡ planNumber (planStates (now (file .entry)) (now (work .entry)) (now (table .entry)) (now (states .entry)) .outcome) ⌝ }
+    ensures { λ _. ⌜ now (work .exit) ≡ planStates (now (file .entry)) (now (work .entry)) (now (table .entry)) (now (states .entry)) .outcome .work ⌝ }
+    ensures { λ _. ⌜ now (table .exit) ≡ planStates (now (file .entry)) (now (work .entry)) (now (table .entry)) (now (states .entry)) .outcome .table ⌝ }
+    ensures { λ _. ⌜ now (states .exit) ≡ planStates (now (file .entry)) (now (work .entry)) (now (table .entry)) (now (states .entry)) .report ⌝ }
+{
+    let p = state_numbers(file, work, table, states);
     match p {
         Planned::Table(size) => size as u32,
         Planned::Refused(number) => 65536 + (number as u32),

@@ -8,7 +8,7 @@ use native.Mathlib.Nat.{pow-suc, pow-le-pow-right}
 use native.Mathlib.Omega.{arith}
 use lib.ListN.{length, drop, length-map, List·getD-append}
 use lib.Seq.{drop-append-seam}
-use lib.Dec.{T, ltb, eqb}
+use lib.Dec.{T, leb, ltb, eqb}
 use Rattle.rules.specs.Sizes.{maxWidth, statesSize}
 use Rattle.rules.specs.Basics.{choose, at, filter, range, joined, count}
 use Rattle.rules.specs.Numbers.{Bytes, word, low, high}
@@ -225,6 +225,13 @@ module _ (file work table states : List ℕ) where
       → planStates file work table states ≡ record { outcome = record { number = 1; size = 0; table = table; work = work }; report = states }
   unfolding planStates planReport
   states-short h = choose-no _ _ _ (λ c. let d = T-leb statesSize (length states) .0 c in omega arith)
+
+  -- so what holds of the planner's answer and of that refusal holds of the call's
+  pub states-each : (P : Outcome → Type 0) → P (plan file work table) → P (record { number = 1; size = 0; table = table; work = work })
+      → P (planStates file work table states .outcome)
+  unfolding planStates planReport
+  states-each P planned short =
+      by-choice (λ (r : Reported). P (r .outcome)) (leb statesSize (length states)) (λ _. planned) (λ _. short)
 
   module _ (room : statesSize ≤ length states) where
     abbrev o : Outcome

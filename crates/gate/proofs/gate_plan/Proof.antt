@@ -1,7 +1,8 @@
 -- `gate::gate_plan` meets its contract. Assumes nothing.
 use native.Mathlib.Omega.{arith}
 use borrow.Author.Needs.{needs}
-use Rattle.gate.specs.Laws.{table-number, table-few, refusal-number}
+use Rattle.laws.specs.Demands.{table-has-bytes}
+use Rattle.gate.specs.Laws.{table-number, table-size, plan-few, refusal-number}
 use Rattle.gate.proofs.gate_plan.Statement.{statement}
 use Rattle.gate.proofs.gate_plan.Tie as tie
 
@@ -12,9 +13,10 @@ enum-known-p : tie.Need-enum-known-p
 enum-known-p c = search needs
 
 cast-result : tie.Need-cast-result
-cast-result c =
-    let h = table-few _ _ _ _ _ _ (c .before .before .before .before .before .before .before .plan .ensures) _ (c .before .p .given .1)
-    (λ i. omega (arith, c .before .before .before .before .before .before .before .before .before .before .before .before .shared-slice-known .given i)) in
+cast-result c = 
+    let a = c .before .before .before .before .before .before .before .before .before .before .before .before .before .args in
+    let h = table-size _ _ _ _ (c .before .before .before .before .before .before .before .plan .ensures) _ (c .before .p .given .1) in
+    let few = plan-few (a .file .now) (a .work .now) (a .table .now) (λ i. omega (arith, c .before .before .before .before .before .before .before .before .before .before .before .before .shared-slice-known .given i)) in
     omega arith
 
 enum-known-p-2 : tie.Need-enum-known-p-2
@@ -33,8 +35,7 @@ same-length-2 : tie.Need-same-length-2
 same-length-2 c = search needs
 
 returns : tie.Need-returns
-returns c =
-    table-number _ _ _ _ _ _ (c .before .before .before .before .before .before .before .plan .ensures) _ (c .before .p .given .1)
+returns c = table-number _ _ _ _ (c .before .before .before .before .before .before .before .plan .ensures) _ (c .before .p .given .1)
 
 same-length-3 : tie.Need-same-length-3
 same-length-3 c = search needs
@@ -43,8 +44,7 @@ same-length-4 : tie.Need-same-length-4
 same-length-4 c = search needs
 
 returns-2 : tie.Need-returns-2
-returns-2 c =
-    refusal-number _ _ _ _ _ _ (c .before .before .before .before .before .before .before .plan .ensures) _ (c .before .p2 .given .1)
+returns-2 c = refusal-number _ _ _ _ (c .before .before .before .before .before .before .before .plan .ensures) (table-has-bytes _ _ _) _ (c .before .p2 .given .1)
 
 pub gate-plan-spec : {M : Type 1} → statement M
 gate-plan-spec =
