@@ -1,5 +1,5 @@
-// What the programs plan, plan_table, check_table, show_table, implied_needs and small_gates do. Each but the last gives the number of the question that
-// said no, as it printed it; 0 where none did, or where a file could not be read or written.
+// What the programs plan, plan_table, check_table, show_table, implied_needs, states, small_gates and state_table do. Each but the last two gives the
+// number of the question that said no, as it printed it; 0 where none did, or where a file could not be read or written.
 //
 // A job file that fills its buffer is longer than a file may be, and is refused by question 2, whatever follows; a table file that fills its
 // buffer is longer than any table, and is refused by question 14.
@@ -8,6 +8,7 @@ use libc::STDERR_FILENO;
 use libc::STDIN_FILENO;
 use sizes::MAX_FILE;
 use sizes::PAIR_ENTRIES;
+use sizes::STATE_BYTES;
 use sizes::TABLE_BYTES;
 ghost use mathlib.Core.Path.{_≡_};
 ghost use mathlib.Core.Bool.{true};
@@ -16,6 +17,7 @@ ghost use lib.ListN.{length, take};
 ghost use Rattle.rules.specs.Fields.{numberOf};
 ghost use Rattle.rules.specs.Answers.{plan as Answers·plan, check as Answers·check};
 ghost use Rattle.rules.specs.Implied.{listImplied};
+ghost use Rattle.rules.specs.States.{planStates};
 ghost use Rattle.laws.specs.Refusals.{PlanNumber, ImpliedNumber, CheckNumber, LookupNumber};
 ghost use Rattle.gate.specs.Numbers.{plannedSize};
 
@@ -171,10 +173,35 @@ pub fn implied_needs() -> u8
     list_bytes(&file[..n], &mut list)
 }
 
+// Plans a job file in lent buffers, and prints the state number of each slot of its table, or that the file is refused; gives the number.
+fn states_bytes(file: &[u8], work: &mut [u8], table: &mut [u8], states: &mut [u8]) -> u8
+    ensures { λ r. ⌜ r ≡ planStates (now (file .entry)) (now (work .entry)) (now (table .entry)) (now (states .entry)) .outcome .number ⌝ }
+{
+    let p = gate::state_numbers(file, work, table, states);
+    printing::print_states(p, table_of(p, table), states)
+}
+
+// Plans a job file that is read from standard input, and prints the state number of each slot, one a line, or that the file is refused.
+pub fn states() -> u8
+    ensures { λ r. ⌜ (r ≡ 0) ⊎ PlanNumber r ⌝ }
+{
+    let mut file = [0u8; FILE_ROOM];
+    let mut work = io::large_buffer();
+    let mut table = [0u8; TABLE_BYTES];
+    let mut numbers = [0u8; STATE_BYTES];
+    let n = io::read_full(STDIN_FILENO, &mut file);
+    states_bytes(&file[..n], &mut work, &mut table, &mut numbers)
+}
+
 // Prints the line of every small gate; says whether the planner gives the same for each.
 pub fn small_gates() -> bool
     ensures { λ r. ⌜ r ≡ true ⌝ }
 {
     let list = small::small_gates();
     printing::print_gates(&list)
+}
+
+// Prints the table of base-three numbers, one entry a line.
+pub fn state_table() {
+    printing::print_entries();
 }

@@ -1,7 +1,7 @@
 -- State numbers (document 02, request 11): which jobs a slot's number speaks of, what its digits say, that no two states of a slot share a number, and
 -- what the call leaves. Assumes nothing.
 use mathlib.Core.Path.{_≡_, refl, sym, ap, ap₂, _∙_}
-use mathlib.Core.Logic.{_↔_}
+use mathlib.Core.Logic.{_↔_, _⊎_}
 use mathlib.Core.List.{List, [], _∷_, List·Memᴰ, List·Memᴰ·head, List·Memᴰ·tail}
 use Prim.Native.Nat.{ℕ, zero, suc, _+_, _*_, _^_, _≤_, _<_}
 use native.Mathlib.Nat.{pow-suc, pow-le-pow-right}
@@ -9,7 +9,7 @@ use native.Mathlib.Omega.{arith}
 use lib.ListN.{length, drop, length-map, List·getD-append}
 use lib.Seq.{drop-append-seam}
 use lib.Dec.{T, leb, ltb, eqb}
-use Rattle.rules.specs.Sizes.{maxWidth, statesSize}
+use Rattle.rules.specs.Sizes.{maxWidth, workSize, tableSize, statesSize}
 use Rattle.rules.specs.Basics.{choose, at, filter, range, joined, count}
 use Rattle.rules.specs.Numbers.{Bytes, word, low, high}
 use Rattle.rules.specs.Fields.{got, after}
@@ -20,7 +20,7 @@ use Rattle.rules.specs.Windows.{release, tail, width}
 use Rattle.rules.specs.Table.{Table, starts}
 use Rattle.rules.specs.Answers.{Outcome, tableOf, planTable, plan}
 use Rattle.rules.specs.Reports.{Reported, reportOn, reported, planReport}
-use Rattle.rules.specs.States.{stateDigit, heldJobs, stateDigits, baseThree, stateNumbers, stateBytes, planStates}
+use Rattle.rules.specs.States.{stateDigit, heldJobs, stateDigits, baseThree, stateNumber, stateNumbers, stateBytes, planStates}
 use Rattle.laws.specs.Tests.{T-leb, T-ltb, T-eqb, by-choice, choose-yes, choose-no}
 use Rattle.laws.specs.Lists.{Rising, map-agree, map-mem⁻¹, range-rising, filter-mem, filter-mem⁻¹, filter-same, filter-rising, tabulate-at, map-range}
 use Rattle.laws.specs.Counting.{range-below, length-range, most-ge}
@@ -29,9 +29,10 @@ use Rattle.laws.specs.Numbers.{word-split}
 use Rattle.laws.specs.Fields.{after-got}
 use Rattle.laws.specs.Width.{window, window-is, file-window, width-window}
 use Rattle.laws.specs.JobFile.{Readable, readable}
+use Rattle.laws.specs.Refusals.{PlanNumber}
 use Rattle.laws.specs.Best.{Shortest}
 use Rattle.laws.specs.Planned.{starts-are}
-use Rattle.laws.specs.Demands.{answers-table, FromFile, from-file}
+use Rattle.laws.specs.Demands.{plan-numbers, answers-table, FromFile, from-file}
 
 -- ---- the jobs of a slot
 
@@ -70,7 +71,8 @@ pub record DigitSays (s t d : ℕ) : Type 0 where
 pub digit-says : (s t : ℕ) → DigitSays s t (stateDigit s t)
 unfolding stateDigit
 digit-says s t =
-    by-choice (DigitSays s t) (ltb s t) (λ a. let h = T-ltb s t .0 a in record { not-done = omega arith; done-earlier = omega arith; running-now = omega arith })
+    by-choice (DigitSays s t) (ltb s t)
+    (λ a. let h = T-ltb s t .0 a in record { not-done = omega arith; done-earlier = omega arith; running-now = omega arith })
     (λ a. by-choice (DigitSays s t) (ltb t s)
     (λ b. let h = T-ltb t s .0 b in record { not-done = omega arith; done-earlier = omega arith; running-now = omega arith })
     (λ b. let e : t ≡ s = late a b in record { not-done = omega arith; done-earlier = omega arith; running-now = omega arith }))
@@ -117,18 +119,21 @@ module _ (n : ℕ) (needs : List Need) (L : ℕ) (t : List ℕ) (s : ℕ) where
   digits-count = length-map (heldJobs n needs L s) _
 
   -- "all are below 6,561": in a slot below the limit, of a file that is not too wide
-  pub number-below : s < L → width n needs L ≤ maxWidth → baseThree (stateDigits n needs L t s) < 6561
+  pub number-below : s < L → width n needs L ≤ maxWidth → stateNumber n needs L t s < 6561
   number-below h w =
-      omega (arith, base-lt (stateDigits n needs L t s) digits-in,
-      pow-le-pow-right {n = 3} (omega arith) {i = length (stateDigits n needs L t s)} {j = 8} (omega (arith, digits-count, held-few n needs L s h, w)))
+      omega (
+        arith,
+        base-lt (stateDigits n needs L t s) digits-in,
+        pow-le-pow-right {n = 3} (omega arith) {i = length (stateDigits n needs L t s)} {j = 8} (omega (arith, digits-count, held-few n needs L s h, w)),
+      )
 
 -- "No two states of a slot share a number": two start lists with the same number in a slot have each of its jobs not done, done or running alike
-pub same-state : (n : ℕ) (needs : List Need) (L : ℕ) (t u : List ℕ) (s : ℕ) → baseThree (stateDigits n needs L t s) ≡ baseThree (stateDigits n needs L u s)
+pub same-state : (n : ℕ) (needs : List Need) (L : ℕ) (t u : List ℕ) (s : ℕ) → stateNumber n needs L t s ≡ stateNumber n needs L u s
     → (i : ℕ) → List·Memᴰ i (heldJobs n needs L s) → stateDigit s (at t i) ≡ stateDigit s (at u i)
 unfolding stateDigits
 same-state n needs L t u s e =
-    map-agree _ _ (heldJobs n needs L s) .0 (base-same (stateDigits n needs L t s) (stateDigits n needs L u s) (digits-in n needs L t s) (digits-in n needs L u s)
-    (digits-count n needs L t s ∙ sym (digits-count n needs L u s)) e)
+    map-agree _ _ (heldJobs n needs L s) .0 (base-same (stateDigits n needs L t s) (stateDigits n needs L u s)
+    (digits-in n needs L t s) (digits-in n needs L u s) (digits-count n needs L t s ∙ sym (digits-count n needs L u s)) e)
 
 -- ---- the bytes
 
@@ -154,7 +159,7 @@ module _ (f : JobFile) (T : Table) where
   bytes-count = length-joined two 2 (λ w. refl) (stateNumbers f T) ∙ ap (2 *_) numbers-count
 
   -- the number of slot s, where it fits two bytes
-  shown-at : (states : List ℕ) (s : ℕ) → s < T .slots → (w : ℕ) → w ≡ baseThree (stateDigits (length (f .jobs)) (f .needs) (f .limit) (starts T) s) → w < 65536
+  shown-at : (states : List ℕ) (s : ℕ) → s < T .slots → (w : ℕ) → w ≡ stateNumber (length (f .jobs)) (f .needs) (f .limit) (starts T) s → w < 65536
       → word (at (reported (got (stateBytes f T)) states) (2 * s)) (at (reported (got (stateBytes f T)) states) (2 * s + 1)) ≡ w
   unfolding reported stateBytes
   shown-at states s h w e small =
@@ -164,8 +169,8 @@ module _ (f : JobFile) (T : Table) where
       ∙ two-at (stateNumbers f T) s (omega (arith, numbers-count)) (omega (arith, number)) ∙ number
     where
       number : at (stateNumbers f T) s ≡ w
-      number = unfold stateNumbers in rw (map-range (λ s. baseThree (stateDigits (length (f .jobs)) (f .needs) (f .limit) (starts T) s)) (T .slots) 0)
-          (tabulate-at _ (T .slots) 0 s 0 h ∙ ap (λ (k : ℕ). baseThree (stateDigits (length (f .jobs)) (f .needs) (f .limit) (starts T) k)) (omega arith) ∙ sym e)
+      number = unfold stateNumbers in rw (map-range (stateNumber (length (f .jobs)) (f .needs) (f .limit) (starts T)) (T .slots) 0)
+          (tabulate-at _ (T .slots) 0 s 0 h ∙ ap (stateNumber (length (f .jobs)) (f .needs) (f .limit) (starts T)) (omega arith) ∙ sym e)
 
 -- the report of a file that is planned
 pub report-of : (f : JobFile) (T : Table) (file : List ℕ) → readFile file ≡ got f → planTable f ≡ got T → reportOn stateBytes file ≡ got (stateBytes f T)
@@ -181,7 +186,7 @@ pub record ShowsStates (file states : List ℕ) (report : List ℕ) : Type 0 whe
   pub list : List ℕ
   pub planned : Shortest (length (file-read .jobs)) (file-read .needs) (mostBoards file-read) (file-read .limit) list
   pub numbers : (s : ℕ) → s < slots list → word (at report (2 * s)) (at report (2 * s + 1))
-      ≡ baseThree (stateDigits (length (file-read .jobs)) (file-read .needs) (file-read .limit) list s)
+      ≡ stateNumber (length (file-read .jobs)) (file-read .needs) (file-read .limit) list s
   pub small : (s : ℕ) → s < slots list → word (at report (2 * s)) (at report (2 * s + 1)) < 6561
   pub behind-untouched : drop (2 * slots list) report ≡ drop (2 * slots list) states
 
@@ -196,13 +201,13 @@ module _ (f : JobFile) (T : Table) (states : List ℕ) (ok : Readable f) (w : Fr
   starts-back : starts T ≡ w .list
   starts-back = ap (λ (x : Table). starts x) (w .table-is) ∙ starts-are f ok (w .no-circle) (w .narrow) (w .list) (w .short)
 
-  below : (s : ℕ) → s < slots (w .list) → baseThree (stateDigits n (f .needs) (f .limit) (w .list) s) < 6561
+  below : (s : ℕ) → s < slots (w .list) → stateNumber n (f .needs) (f .limit) (w .list) s < 6561
   below s h = number-below n (f .needs) (f .limit) (w .list) s (omega (arith, w .short .fits)) (w .narrow)
 
   number-is : (s : ℕ) → s < slots (w .list) → let report = reported (got (stateBytes f T)) states in
-      word (at report (2 * s)) (at report (2 * s + 1)) ≡ baseThree (stateDigits n (f .needs) (f .limit) (w .list) s)
+      word (at report (2 * s)) (at report (2 * s + 1)) ≡ stateNumber n (f .needs) (f .limit) (w .list) s
   number-is s h =
-      shown-at f T states s (omega (arith, slots-are)) _ (ap (λ (t : List ℕ). baseThree (stateDigits n (f .needs) (f .limit) t s)) (sym starts-back))
+      shown-at f T states s (omega (arith, slots-are)) _ (ap (λ (t : List ℕ). stateNumber n (f .needs) (f .limit) t s) (sym starts-back))
       (omega (arith, below s h))
 
   shows-states : (file : List ℕ) → readFile file ≡ got f → ShowsStates file states (reported (got (stateBytes f T)) states)
@@ -245,6 +250,11 @@ module _ (file work table states : List ℕ) where
     -- else number, size and both buffers are the planner's
     pub states-outcome : planStates file work table states .outcome ≡ plan file work table
     states-outcome = ap (λ (r : Reported). r .outcome) full
+
+    -- with full buffers its refusals are those of the questions 2 to 13, but 9, and 21
+    pub states-numbers : workSize ≤ length work → tableSize ≤ length table
+        → (planStates file work table states .outcome .number ≡ 0) ⊎ PlanNumber (planStates file work table states .outcome .number)
+    states-numbers work-full table-full = rw states-outcome (plan-numbers file work table work-full table-full)
 
     -- a refusal leaves the bytes for the numbers as they were
     pub states-refused : (plan file work table .number ≡ 0 → ⊥) → planStates file work table states .report ≡ states

@@ -1,9 +1,10 @@
-// The text that the programs print: a planned table, a table for people, pairs of job numbers, the lines of the small gates, a refusal.
+// The text that the programs print: a planned table, a table for people, pairs of job numbers, the lines of the small gates, state numbers, a refusal.
 //
 // What is printed is tested, each program against its file `stdout`, and not proved: a contract cannot speak of what goes out. What a function
 // gives back is proved.
 mod grid;
 mod lines;
+mod numbers;
 mod pairs;
 mod report;
 
@@ -96,4 +97,22 @@ pub fn print_gates(list: &[u16]) -> bool
     ensures { λ r. ⌜ r ≡ allAgreed (now (list .entry)) ⌝ }
 {
     lines::print(list)
+}
+
+// Prints the state number of each slot of the table that a planner's answer has left, or that the job file is refused; gives its number.
+pub fn print_states(p: Planned, table: &[u8], states: &[u8]) -> u8
+    ensures { λ r. ⌜ r ≡ plannedNumber p ⌝ }
+{
+    match p {
+        Planned::Table(_) => {
+            numbers::print(states, numbers::slots_in(table));
+            0
+        }
+        Planned::Refused(number) => print_refused(number),
+    }
+}
+
+// Prints the entries of the table of base-three numbers.
+pub fn print_entries() {
+    numbers::print_entries();
 }

@@ -34,9 +34,13 @@ unfoldable pub baseThree : List ℕ → ℕ
 baseThree [] = 0
 baseThree (d ∷ ds) = d + 3 * baseThree ds
 
+-- the number of slot s by the start list t
+abbrev pub stateNumber : ℕ → List Need → ℕ → List ℕ → ℕ → ℕ
+stateNumber n needs L t s = baseThree (stateDigits n needs L t s)
+
 -- "one number for each of its slots": those of the table T of a file that says f, whose limit the windows have
 unfoldable pub stateNumbers : JobFile → Table → List ℕ
-stateNumbers f T = map (λ s. baseThree (stateDigits (length (f .jobs)) (f .needs) (f .limit) (starts T) s)) (range (T .slots) 0)
+stateNumbers f T = map (stateNumber (length (f .jobs)) (f .needs) (f .limit) (starts T)) (range (T .slots) 0)
 
 -- as bytes, two for each slot, "two-byte numbers have the low byte first"
 unfoldable pub stateBytes : JobFile → Table → List ℕ

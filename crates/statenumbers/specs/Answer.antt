@@ -1,27 +1,24 @@
 -- The job file and its planned table, read once more, and the answer of the call. Assumes nothing.
 use mathlib.Core.Path.{_≡_, refl, sym, ap, ap₂, subst, _∙_}
-use mathlib.Core.Logic.{_↔_}
 use mathlib.Core.Bool.{Bool, true, false}
-use mathlib.Core.List.{List, [], _∷_, _++_, map, List·Memᴰ, List·Memᴰ·head, List·Memᴰ·tail}
-use Prim.Native.Nat.{ℕ, zero, suc, _+_, _-_, _*_, _≤_, _<_}
+use mathlib.Core.List.{List, [], _∷_, _++_, map, List·Memᴰ}
+use Prim.Native.Nat.{ℕ, _+_, _-_, _*_, _≤_, _<_}
 use native.Mathlib.Omega.{arith}
 use lib.ListN.{length, take, drop, length-append}
 use lib.Seq.{getD-take, take-at}
-use lib.Dec.{T, leb, eqb}
-use lib.IntN.{pos, _-ℤ_}
-use Rattle.rules.specs.Sizes.{maxJobs, maxLimit, maxWidth, statesSize}
-use Rattle.rules.specs.Basics.{choose, at, filter, range, joined, most, count}
+use lib.Dec.{T, eqb}
+use Rattle.rules.specs.Sizes.{maxJobs, maxLimit, statesSize}
+use Rattle.rules.specs.Basics.{at, filter, range, joined}
 use Rattle.rules.specs.Numbers.{low, high}
-use Rattle.rules.specs.Fields.{Answer, refused, got, ask, after, numberOf}
-use Rattle.rules.specs.Needs.{Need, NeedsIn, circleFree}
-use Rattle.rules.specs.JobFile.{JobFile, mostBoards, readFile}
-use Rattle.rules.specs.Program.{slots}
-use Rattle.rules.specs.Windows.{release, tail, holdsb, width}
+use Rattle.rules.specs.Fields.{Answer, got, after, numberOf}
+use Rattle.rules.specs.Needs.{circleFree}
+use Rattle.rules.specs.JobFile.{JobFile, readFile}
+use Rattle.rules.specs.Windows.{release, tail}
 use Rattle.rules.specs.Table.{Table, starts, encode, decode}
 use Rattle.rules.specs.Answers.{Outcome, planTable, tableOf, written, plan}
 use Rattle.rules.specs.Reports.{Reported, reportOn, reported}
-use Rattle.rules.specs.States.{stateDigit, heldJobs, stateDigits, baseThree, stateNumbers, stateBytes, planStates}
-use Rattle.laws.specs.Tests.{T-true, T-leb, T-eqb, tests, choose-yes, choose-no}
+use Rattle.rules.specs.States.{stateDigit, heldJobs, stateDigits, baseThree, stateNumber, stateNumbers, stateBytes, planStates}
+use Rattle.laws.specs.Tests.{T-true, T-eqb}
 use Rattle.laws.specs.Lists.{map-agree, filter-same}
 use Rattle.laws.specs.Fields.{got-same, ask-got, after-got}
 use Rattle.laws.specs.Counting.{range-below}
@@ -32,15 +29,11 @@ use Rattle.laws.specs.Decoded.{decodedTable}
 use Rattle.laws.specs.Demands.{asked, plan-full, answers-full, answers-table, table-has-bytes, FromFile, from-file}
 use Rattle.laws.specs.Planned.{reads-back}
 use Rattle.laws.specs.Writing.{put, put-front, joined-map, joined-same}
-use Rattle.jobset.specs.Tests.{bool-ext}
+use Rattle.rows.specs.declared.Rows as code
+use Rattle.rows.specs.Rows.{Decodes}
 use Rattle.jobfile.specs.declared.Counts.{Counts}
 use Rattle.jobfile.specs.Reading.{Reads}
-use Rattle.needrows.specs.Rows.{RowsAre}
-use Rattle.releases.specs.Ordered.{Peeled}
-use Rattle.rows.specs.declared.Rows as code
-use Rattle.rows.specs.Rows.{RowsRead, Decodes}
-use Rattle.planner.specs.Planner.{outcomeOf, JobsRead, WindowsRead}
-use Rattle.planner.specs.Asked.{jobs-read}
+use Rattle.planner.specs.Planner.{outcomeOf, JobsRead}
 use Rattle.planner.specs.declared.Planned.{Planned}
 use Rattle.planner.specs.declared.Planned.the-variants as planned
 use Rattle.statenumbers.specs.Ranks.{Times, times, holding, Narrow, slot-number}
@@ -141,8 +134,13 @@ module _ {file table : List ℕ} (p : PlannedFor file table) where
         pub narrow : (k : ℕ) → k < r .slots → Narrow (times s releases tails n L) k
         unfolding Narrow
         narrow k h =
-            omega (arith, ap length (held-same k), from .narrow, held-few N (j .file .needs) (j .file .limit) k
-            (omega (arith, slots-read, slots-few, j .held .limit-is)))
+            omega (
+              arith,
+              ap length (held-same k),
+              from .narrow,
+              held-few N (j .file .needs) (j .file .limit) k
+                  (omega (arith, slots-read, slots-few, j .held .limit-is)),
+            )
 
         -- the bytes are those of the rules
         pub bytes-same : slotsBytes (times s releases tails n L) (r .slots) ≡ stateBytes (j .file) (p .planned-table)
@@ -158,7 +156,7 @@ module _ {file table : List ℕ} (p : PlannedFor file table) where
                 ap (stateDigit k) (start-read i (omega (arith, j .held .jobs-is, held-is N (j .file .needs) (j .file .limit) k i .0 m .0)))
 
             number-same : (k : ℕ) → k < p .planned-table .slots → slotBytes z k
-                ≡ let w = baseThree (stateDigits N (j .file .needs) (j .file .limit) (starts (p .planned-table)) k) in low w ∷ high w ∷ []
+                ≡ let w = stateNumber N (j .file .needs) (j .file .limit) (starts (p .planned-table)) k in low w ∷ high w ∷ []
             number-same k h = unfold slotBytes stateDigits in ap (λ (w : ℕ). low w ∷ high w ∷ []) (
                 slot-number z k (narrow k (omega (arith, slots-read)))
                 ∙ ap (λ (l : List ℕ). baseThree (map (λ i. stateDigit k (at s i)) l)) (held-same k)
@@ -169,7 +167,7 @@ module _ {file table : List ℕ} (p : PlannedFor file table) where
             → states′ ≡ reported (reportOn stateBytes file) states
         unfolding reported
         bytes-written states states′ room e =
-            e ∙ put-front (slotsBytes z (r .slots)) states (omega (arith, bytes-count z (r .slots), slots-read, slots-few, j .held .limit-is, j .keeps .limit-in))
+            e ∙ put-front (slotsBytes z (r .slots)) states (omega (arith, bytes-count z (r .slots), room-for states room))
             ∙ ap (λ (bs : List ℕ). bs ++ drop (length bs) states) bytes-same
             ∙ sym (ap (λ (x : Answer (List ℕ)). reported x states) (report-of (j .file) (p .planned-table) file (j .read) gives))
 

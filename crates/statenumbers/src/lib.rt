@@ -167,12 +167,7 @@ fn put_states(file: &[u8], table: &[u8], states: &mut [u8])
 
 // The planner, and for a table its state numbers, two bytes for each slot, low byte first. Bytes behind them, and all after a refusal, stay as they were.
 // Where there is not room for the numbers of every table nothing is changed.
-pub fn state_numbers(
-    file: &[u8],
-    work: &mut [u8],
-    table: &mut [u8],
-    states: &mut [u8],
-) -> Planned
+pub fn state_numbers(file: &[u8], work: &mut [u8], table: &mut [u8], states: &mut [u8]) -> Planned
     ensures { λ r. ⌜ outcomeOf r (now (work .exit)) (now (table .exit))
         ≡ planStates (now (file .entry)) (now (work .entry)) (now (table .entry)) (now (states .entry)) .outcome ⌝ }
     ensures { λ _. ⌜ now (states .exit)

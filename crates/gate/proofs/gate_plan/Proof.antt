@@ -13,10 +13,11 @@ enum-known-p : tie.Need-enum-known-p
 enum-known-p c = search needs
 
 cast-result : tie.Need-cast-result
-cast-result c = 
+cast-result c =
     let a = c .before .before .before .before .before .before .before .before .before .before .before .before .before .args in
+    let bytes = c .before .before .before .before .before .before .before .before .before .before .before .before .shared-slice-known .given in
     let h = table-size _ _ _ _ (c .before .before .before .before .before .before .before .plan .ensures) _ (c .before .p .given .1) in
-    let few = plan-few (a .file .now) (a .work .now) (a .table .now) (λ i. omega (arith, c .before .before .before .before .before .before .before .before .before .before .before .before .shared-slice-known .given i)) in
+    let few = plan-few (a .file .now) (a .work .now) (a .table .now) (λ i. omega (arith, bytes i)) in
     omega arith
 
 enum-known-p-2 : tie.Need-enum-known-p-2
@@ -44,7 +45,8 @@ same-length-4 : tie.Need-same-length-4
 same-length-4 c = search needs
 
 returns-2 : tie.Need-returns-2
-returns-2 c = refusal-number _ _ _ _ (c .before .before .before .before .before .before .before .plan .ensures) (table-has-bytes _ _ _) _ (c .before .p2 .given .1)
+returns-2 c =
+    refusal-number _ _ _ _ (c .before .before .before .before .before .before .before .plan .ensures) (table-has-bytes _ _ _) _ (c .before .p2 .given .1)
 
 pub gate-plan-spec : {M : Type 1} → statement M
 gate-plan-spec =

@@ -1,6 +1,6 @@
 -- `gate::gate_states` meets its contract. Assumes nothing.
-use borrow.Author.Needs.{needs}
 use native.Mathlib.Omega.{arith}
+use borrow.Author.Needs.{needs}
 use Rattle.gate.specs.Laws.{table-number, table-size, refusal-number, states-few, states-have-bytes}
 use Rattle.gate.proofs.gate_states.Statement.{statement}
 use Rattle.gate.proofs.gate_states.Tie as tie
@@ -12,10 +12,12 @@ enum-known-p : tie.Need-enum-known-p
 enum-known-p c = search needs
 
 cast-result : tie.Need-cast-result
-cast-result c = 
-    let a = c .before .before .before .before .before .before .before .before .before .before .before .before .before .before .before .before .before .args in
-    let h = table-size _ _ _ _ (c .before .before .before .before .before .before .before .before .before .state-numbers .ensures .0) _ (c .before .p .given .1) in
-    let few = states-few (a .file .now) (a .work .now) (a .table .now) (a .states .now) (λ i. omega (arith, c .before .before .before .before .before .before .before .before .before .before .before .before .before .before .before .before .shared-slice-known .given i)) in
+cast-result c =
+    let k = c .before .before .before .before .before .before .before .before .before in
+    let a = k .before .before .before .before .before .before .before .before .args in
+    let bytes = k .before .before .before .before .before .before .before .shared-slice-known .given in
+    let h = table-size _ _ _ _ (k .state-numbers .ensures .0) _ (c .before .p .given .1) in
+    let few = states-few (a .file .now) (a .work .now) (a .table .now) (a .states .now) (λ i. omega (arith, bytes i)) in
     omega arith
 
 enum-known-p-2 : tie.Need-enum-known-p-2
@@ -37,7 +39,7 @@ same-length-3 : tie.Need-same-length-3
 same-length-3 c = search needs
 
 returns : tie.Need-returns
-returns c = 
+returns c =
     let e = c .before .before .before .before .before .before .before .before .before .state-numbers .ensures in
     let n = table-number _ _ _ _ (e .0) _ (c .before .p .given .1) in
     (n .0, (n .1 .0, (n .1 .1, e .1)))
@@ -52,7 +54,7 @@ same-length-6 : tie.Need-same-length-6
 same-length-6 c = search needs
 
 returns-2 : tie.Need-returns-2
-returns-2 c = 
+returns-2 c =
     let e = c .before .before .before .before .before .before .before .before .before .state-numbers .ensures in
     let n = refusal-number _ _ _ _ (e .0) (states-have-bytes _ _ _ _) _ (c .before .p2 .given .1) in
     (n .0, (n .1 .0, (n .1 .1, e .1)))

@@ -1,6 +1,6 @@
 -- `statenumbers::number_of` meets its contract. Assumes nothing.
-use borrow.Author.Needs.{needs}
 use native.Mathlib.Omega.{arith}
+use borrow.Author.Needs.{needs}
 use Rattle.threes.specs.Threes.{numberOf, number-lt}
 use Rattle.statenumbers.proofs.number_of.Statement.{statement}
 use Rattle.statenumbers.proofs.number_of.Tie as tie

@@ -1,6 +1,6 @@
 -- `statenumbers::put_numbers` meets its contract. Assumes nothing.
-use mathlib.Core.Path.{_≡_, sym, ap, ap₂, subst, _∙_}
-use mathlib.Core.List.{List, [], _∷_}
+use mathlib.Core.Path.{sym, ap, subst, _∙_}
+use mathlib.Core.List.{[], _∷_}
 use Prim.Native.Nat.{ℕ, _-_, _*_}
 use native.Mathlib.Omega.{arith}
 use borrow.Author.Needs.{needs}
@@ -14,7 +14,7 @@ use Rattle.statenumbers.proofs.put_numbers.Statement.{statement}
 use Rattle.statenumbers.proofs.put_numbers.Tie as tie
 
 abbrev Inv-loop : tie.InvT-loop
-Inv-loop starts release tail jobs limit slots states₀ slot₀ states slot = 
+Inv-loop starts release tail jobs limit slots states₀ slot₀ states slot =
     WrittenSoFar (slotBytes (times starts release tail jobs limit)) slots 0 states₀ slot (2 * slot) states
 
 abbrev μ-loop : tie.MeasureT-loop
@@ -24,16 +24,23 @@ loop-holds : tie.Need-loop-holds Inv-loop μ-loop
 loop-holds c = so-far-start _ _ _ _
 
 ranks-in-requires : tie.Need-ranks-in-requires Inv-loop μ-loop
-ranks-in-requires c κs = let p = c .before .before .before .pre in (p .0, omega (arith, p .1, c .loop-test .taken), p .3 _ (c .loop-test .taken))
+ranks-in-requires c κs =
+    let p = c .before .before .before .pre in
+    let h = c .loop-test .taken in
+    (p .0, omega (arith, p .1, h), p .3 _ h)
 
 mul-put-word : tie.Need-mul-put-word Inv-loop μ-loop
 mul-put-word c = search needs
 
 number-of-requires : tie.Need-number-of-requires Inv-loop μ-loop
-number-of-requires c κs = subst (λ (z : Ranks). RanksFit z) (sym (c .before .ranks-in .ensures)) (ranks-fit _ _ (c .before .before .before .before .before .pre .3 _ (c .before .before .loop-test .taken)))
+number-of-requires c κs =
+    let narrow = c .before .before .before .before .before .pre .3 _ (c .before .before .loop-test .taken) in
+    subst (λ (z : Ranks). RanksFit z) (sym (c .before .ranks-in .ensures)) (ranks-fit _ _ narrow)
 
 put-word-requires : tie.Need-put-word-requires Inv-loop μ-loop
-put-word-requires c κs = omega (arith, c .before .before .before .before .loop .inv .size, c .before .before .before .before .before .before .pre .2, c .before .before .before .loop-test .taken)
+put-word-requires c κs =
+    let l = c .before .before .before .before .loop in
+    omega (arith, l .inv .size, c .before .before .before .before .before .before .pre .2, c .before .before .before .loop-test .taken)
 
 add-slot : tie.Need-add-slot Inv-loop μ-loop
 add-slot c = search needs
@@ -43,9 +50,11 @@ loop-less c = search needs
 
 loop-again : tie.Need-loop-again Inv-loop μ-loop
 unfolding slotBytes
-loop-again c = 
+loop-again c =
     let l = c .before .before .before .before .before .before .before .loop in
-    let e = c .before .before .before .number-of .ensures ∙ ap (λ (z : Ranks). numberOf (z .begun) (z .running)) (c .before .before .before .before .before .ranks-in .ensures) in
+    let number = c .before .before .before .number-of .ensures in
+    let ranks = c .before .before .before .before .before .ranks-in .ensures in
+    let e = number ∙ ap (λ (z : Ranks). numberOf (z .begun) (z .running)) ranks in
     so-far-put (l .inv) (c .before .before .before .before .before .before .loop-test .taken) _ _ (omega arith)
     (c .before .before .put-word .ensures ∙ ap (λ (w : ℕ). put (2 * l .slot) (low w ∷ high w ∷ []) (l .states)) e)
 

@@ -1,9 +1,9 @@
 -- `statenumbers::put_states` meets its contract. Assumes nothing.
-use borrow.Author.Needs.{needs}
 use mathlib.Core.Path.{_≡_, refl}
 use mathlib.Core.Bool.{true}
 use Prim.Native.Nat.{ℕ, _<_}
 use native.Mathlib.Omega.{arith}
+use borrow.Author.Needs.{needs}
 use lib.ListN.{length-replicate}
 use Rattle.rules.specs.Basics.{at}
 use Rattle.rules.specs.Windows.{release, tail}
@@ -28,7 +28,9 @@ to-peel c = c .before .before .before .before
 read : (c : tie.After-read-file) → let r = c .read-file in
     JobsRead (to-start c .args .file .now) (r .result .jobs) (r .result .limit) (r .last .1 .0) (r .last .1 .1 .0)
 read c =
-    jobs-read (c .read-file .ensures .0) (number-zero (to-start c .pre .0) (c .read-file .ensures .0)) (λ i. omega (arith, c .before .before .before .before .before .shared-slice-known .given i))
+    let reads = c .read-file .ensures .0 in
+    let bytes = c .before .before .before .before .before .shared-slice-known .given in
+    jobs-read reads (number-zero (to-start c .pre .0) reads) (λ i. omega (arith, bytes i))
 
 -- its jobs are peeled again, and there is no circle
 peeled : (c : tie.After-peel) → let j = read (to-reader c) in
@@ -63,26 +65,31 @@ slice-aggregate-tails : tie.Need-slice-aggregate-tails
 slice-aggregate-tails c = search needs
 
 tails-requires : tie.Need-tails-requires
-tails-requires c κs = (order-of (read (c .before .before .before .before .before .before .before .before)) _ _ _ (peeled (c .before .before .before)) (no-circle (c .before .before .before)), length-replicate {A = ℕ} 400 0)
+tails-requires c κs =
+    let p = c .before .before .before in (order-of (read (to-reader p)) _ _ _ (peeled p) (no-circle p), length-replicate {A = ℕ} 400 0)
 
 read-rows-requires : tie.Need-read-rows-requires
 read-rows-requires c κs = search needs
 
 put-numbers-requires : tie.Need-put-numbers-requires
-put-numbers-requires c κs = 
-    let z = c .before .before .before .before .before .before .before .before .before .before .before .before .before .before .before .before .before .before .before .before .before .before .before .pre in
-    let j = read (c .before .before .before .before .before .before .before .before .before .before .before .before .before .before .before .before .before) in
+put-numbers-requires c κs =
+    let k = c .before .before .before .before .before .before .before .before in
+    let r = to-reader (to-peel k) in
+    let z = to-start r in
     let d = c .before .before .before .before .read-rows .ensures in
-    let room = room-for (z .0) j d (c .before .before .before .before .before .before .before .before .before .before .before .before .before .before .before .before .before .before .before .before .before .before .before .args .states .now) (z .1) in
-    (j .held .few, room .0, room .1, narrow (z .0) j d _ _ (releases-are (c .before .before .before .before .before .before .before .before .before .before .before .before)) (tails-are (c .before .before .before .before .before .before .before .before)))
+    let room = room-for (z .pre .0) (read r) d (z .args .states .now) (z .pre .1) in
+    (read r .held .few, room .0, room .1, narrow (z .pre .0) (read r) d _ _ (releases-are (to-peel k)) (tails-are k))
 
 same-length : tie.Need-same-length
 same-length c = search needs
 
 returns : tie.Need-returns
-returns c = 
-    let z = c .before .before .before .before .before .before .before .before .before .before .before .before .before .before .before .before .before .before .before .before .before .before .before .before .before .before .pre in
-    bytes-written (z .0) (read (c .before .before .before .before .before .before .before .before .before .before .before .before .before .before .before .before .before .before .before .before)) (c .before .before .before .before .before .before .before .read-rows .ensures) _ _ (releases-are (c .before .before .before .before .before .before .before .before .before .before .before .before .before .before .before)) (tails-are (c .before .before .before .before .before .before .before .before .before .before .before)) _ _ (z .1) (c .before .before .put-numbers .ensures)
+returns c =
+    let k = c .before .before .before .before .before .before .before .before .before .before .before in
+    let r = to-reader (to-peel k) in
+    let p = to-start r .pre in
+    let d = c .before .before .before .before .before .before .before .read-rows .ensures in
+    bytes-written (p .0) (read r) d _ _ (releases-are (to-peel k)) (tails-are k) _ _ (p .1) (c .before .before .put-numbers .ensures)
 
 pub put-states-spec : {M : Type 1} → statement M
 put-states-spec =

@@ -1,10 +1,9 @@
 -- `statenumbers::ranks_in` meets its contract. Assumes nothing.
-use native.Mathlib.Omega.{arith}
-use borrow.Author.Needs.{needs}
-use Prim.Native.Nat.{ℕ, _-_}
-use Rattle.statenumbers.specs.Ranks.{ranked, times, RankedSoFar, ranked-start, ranked-yes, ranked-no, ranked-end}
 use mathlib.Core.Path.{ap, _∙_}
+use Prim.Native.Nat.{ℕ, _-_}
+use borrow.Author.Needs.{needs}
 use Rattle.laws.specs.Width.{window}
+use Rattle.statenumbers.specs.Ranks.{ranked, times, RankedSoFar, ranked-start, ranked-yes, ranked-no, ranked-end}
 use Rattle.statenumbers.proofs.ranks_in.Statement.{statement}
 use Rattle.statenumbers.proofs.ranks_in.Tie as tie
 
@@ -43,23 +42,30 @@ wide-requires c κs = search needs
 
 ranked-requires : tie.Need-ranked-requires Inv-loop μ-loop
 unfolding window
-ranked-requires c κs = ranked-yes _ _ (c .before .before .before .before .before .before .before .loop .inv) (c .before .before .before .before .before .before .loop-test .taken) _ (c .before .before .before .holds .ensures) (c .before .before .if1 .taken) .0
+ranked-requires c κs =
+    let t = c .before .before .before in
+    let l = t .before .before .before .before .loop in
+    ranked-yes _ _ (l .inv) (t .before .before .before .loop-test .taken) _ (t .holds .ensures) (c .before .before .if1 .taken) .0
 
 loop-less : tie.Need-loop-less Inv-loop μ-loop
 loop-less c = search needs
 
 loop-again : tie.Need-loop-again Inv-loop μ-loop
 unfolding window
-loop-again c = let z = c .before .before .before .before .before .before .before .before .loop .z in
-    ranked-yes _ _ (c .before .before .before .before .before .before .before .before .loop .inv) (c .before .before .before .before .before .before .before .loop-test .taken) _ (c .before .before .before .before .holds .ensures) (c .before .before .before .if1 .taken) .1 _
-    (c .ranked .ensures ∙ ap (λ (t : ℕ). ranked (c .before .before .before .before .before .before .before .before .before .args .slot) t z) (c .before .wide .ensures))
+loop-again c =
+    let t = c .before .before .before .before in
+    let l = t .before .before .before .before .loop in
+    let turn = ranked-yes _ _ (l .inv) (t .before .before .before .loop-test .taken) _ (t .holds .ensures) (c .before .before .before .if1 .taken) in
+    turn .1 _ (c .ranked .ensures ∙ ap (λ (s : ℕ). ranked (t .before .before .before .before .before .args .slot) s (l .z)) (c .before .wide .ensures))
 
 loop-less-2 : tie.Need-loop-less-2 Inv-loop μ-loop
 loop-less-2 c = search needs
 
 loop-again-2 : tie.Need-loop-again-2 Inv-loop μ-loop
 unfolding window
-loop-again-2 c = ranked-no _ _ (c .before .before .before .before .before .loop .inv) (c .before .before .before .before .loop-test .taken) _ (c .before .holds .ensures) (c .if1 .left)
+loop-again-2 c =
+    let t = c .before in
+    ranked-no _ _ (t .before .before .before .before .loop .inv) (t .before .before .before .loop-test .taken) _ (t .holds .ensures) (c .if1 .left)
 
 returns : tie.Need-returns Inv-loop μ-loop
 returns c = ranked-end _ _ (c .before .loop .inv) (c .loop-test .left)

@@ -1,8 +1,8 @@
 -- `statenumbers::state_numbers` meets its contract. Assumes nothing.
+use mathlib.Core.Path.{refl, sym}
 use borrow.Author.Needs.{needs}
 use lib.Seq.{length-take-le}
 use Rattle.statenumbers.specs.Answer.{PlanCalled, short-states, same-outcome, refusal-leaves, planned-for, size-in, reports}
-use mathlib.Core.Path.{refl, sym}
 use Rattle.statenumbers.proofs.state_numbers.Statement.{statement}
 use Rattle.statenumbers.proofs.state_numbers.Tie as tie
 
@@ -45,16 +45,21 @@ same-length-2 : tie.Need-same-length-2
 same-length-2 c = search needs
 
 returns-2 : tie.Need-returns-2
-returns-2 c = (same-outcome (called (c .before .before .before .before .before .before)) _ refl, refusal-leaves (called (c .before .before .before .before .before .before)) _ (c .enum-told .given .1))
+returns-2 c =
+    let k = called (c .before .before .before .before .before .before) in (same-outcome k _ refl, refusal-leaves k _ (c .enum-told .given .1))
 
 slice-reshare-prefix-put-states : tie.Need-slice-reshare-prefix-put-states
 slice-reshare-prefix-put-states c = size-in (called (c .before .before .before .before .before .before .before)) _ (c .before .p .given .1)
 
 slice-aggregate-put-states : tie.Need-slice-aggregate-put-states
-slice-aggregate-put-states c = sym (length-take-le _ _ (size-in (called (c .before .before .before .before .before .before .before .before)) _ (c .before .before .p .given .1)))
+slice-aggregate-put-states c =
+    let k = called (c .before .before .before .before .before .before .before .before) in
+    sym (length-take-le _ _ (size-in k _ (c .before .before .p .given .1)))
 
 put-states-requires : tie.Need-put-states-requires
-put-states-requires c κs = (planned-for (called (c .before .before .before .before .before .before .before .before .before)) _ (c .before .before .before .p .given .1), c .before .before .before .before .before .before .before .before .before .before .before .before .if1 .left)
+put-states-requires c κs =
+    let k = called (c .before .before .before .before .before .before .before .before .before) in
+    (planned-for k _ (c .before .before .before .p .given .1), k .room)
 
 same-length-3 : tie.Need-same-length-3
 same-length-3 c = search needs
@@ -66,7 +71,10 @@ same-length-5 : tie.Need-same-length-5
 same-length-5 c = search needs
 
 returns-3 : tie.Need-returns-3
-returns-3 c = (same-outcome (called (c .before .before .before .before .before .before .before .before .before .before .before .before)) _ (c .before .before .before .before .before .before .p .given .1), reports (called (c .before .before .before .before .before .before .before .before .before .before .before .before)) _ (c .before .before .before .before .before .before .p .given .1) _ (c .before .before .put-states .ensures))
+returns-3 c =
+    let k = called (c .before .before .before .before .before .before .before .before .before .before .before .before) in
+    let e = c .before .before .before .before .before .before .p .given .1 in
+    (same-outcome k _ e, reports k _ e _ (c .before .before .put-states .ensures))
 
 pub state-numbers-spec : {M : Type 1} → statement M
 state-numbers-spec =
