@@ -19,33 +19,28 @@ use Rattle.planner.specs.declared.Planned.{Planned}
 use Rattle.planner.specs.declared.Planned.the-variants as planned
 use Rattle.table.specs.Entries.{verdictOf, foundOf, placeOf}
 use Rattle.table.specs.Names.{name-lies}
-use Rattle.gate.specs.Numbers.{planNumber, plannedNumber, plannedSize, verdictNumber, foundNumber, refusalNumber, placeNumber, lookupNumber, nameNumber}
+use Rattle.gate.specs.Numbers.{planNumber, plannedNumber, plannedSize, answerNumber, verdictNumber, foundNumber, refusalNumber, placeNumber, lookupNumber, nameNumber}
 
--- the answer p leaves the buffers work′ and table′: together they are the outcome o
-module _ (o : Outcome) (p : Planned) (work′ table′ : List ℕ) (answered : outcomeOf p work′ table′ ≡ o) where
-  abbrev Answered : ℕ → Type 0
-  Answered r = (r ≡ planNumber o) × ((work′ ≡ o .work) × (table′ ≡ o .table))
+-- the number and the size in the planner's answer are those of the rules' outcome
+pub planned-number : (p : Planned) (work table : List ℕ) (o : Outcome) → outcomeOf p work table ≡ o → (plannedNumber p ≡ o .number) × (plannedSize p ≡ o .size)
+unfolding plannedNumber plannedSize
+planned-number (planned.Table k) work table o e = (ap (λ (x : Outcome). x .number) e, ap (λ (x : Outcome). x .size) e)
+planned-number (planned.Refused q) work table o e = (ap (λ (x : Outcome). x .number) e, ap (λ (x : Outcome). x .size) e)
 
-  outcome-by : (q : Planned) → p ≡ q → outcomeOf q work′ table′ ≡ o
-  outcome-by q e = subst (λ (x : Planned). outcomeOf x work′ table′ ≡ o) e answered
+-- and so is its one number: a refusal's is not 0, since a table has bytes
+pub answer-number : (p : Planned) (work table : List ℕ) (o : Outcome) → outcomeOf p work table ≡ o → (o .number ≡ 0 → 0 < o .size)
+    → answerNumber p ≡ planNumber o
+unfolding answerNumber planNumber
+answer-number (planned.Table k) work table o e has-bytes = sym (ap planNumber (sym e) ∙ choose-yes _ _ _ (T-eqb 0 0 .1 refl))
+answer-number (planned.Refused q) work table o e has-bytes = sym (ap planNumber (sym e) ∙ choose-no _ _ _ (λ t. no-table (T-eqb q 0 .0 t)))
+  where
+    no-table : q ≡ 0 → ⊥
+    no-table z = omega (arith, ap (λ (x : Outcome). x .size) e, has-bytes (sym (ap (λ (x : Outcome). x .number) e) ∙ z))
 
-  -- a table: its length
-  pub table-number : (k : ℕ) → p ≡ planned.Table k → Answered k
-  unfolding planNumber
-  table-number k e =
-      let h = outcome-by (planned.Table k) e in
-      (sym (ap planNumber (sym h) ∙ choose-yes _ _ _ (T-eqb 0 0 .1 refl)), (ap (λ (x : Outcome). x .work) h, ap (λ (x : Outcome). x .table) h))
-
-  pub table-size : (k : ℕ) → p ≡ planned.Table k → k ≡ o .size
-  table-size k e = ap (λ (x : Outcome). x .size) (outcome-by (planned.Table k) e)
-
-  -- a refusal: its number is not 0, since a table has bytes
-  pub refusal-number : (o .number ≡ 0 → 0 < o .size) → (q : ℕ) → p ≡ planned.Refused q → Answered (65536 + q)
-  unfolding planNumber
-  refusal-number has-bytes q e =
-      let h = outcome-by (planned.Refused q) e in
-      let n : q ≡ 0 → ⊥ = λ z. omega (arith, ap (λ (x : Outcome). x .size) h, has-bytes (sym (ap (λ (x : Outcome). x .number) h) ∙ z)) in
-      (sym (ap planNumber (sym h) ∙ choose-no _ _ _ (λ t. n (T-eqb q 0 .0 t))), (ap (λ (x : Outcome). x .work) h, ap (λ (x : Outcome). x .table) h))
+-- both buffers are the outcome's
+pub buffers-left : (p : Planned) (work table : List ℕ) (o : Outcome) → outcomeOf p work table ≡ o → (work ≡ o .work) × (table ≡ o .table)
+buffers-left (planned.Table k) work table o e = (ap (λ (x : Outcome). x .work) e, ap (λ (x : Outcome). x .table) e)
+buffers-left (planned.Refused q) work table o e = (ap (λ (x : Outcome). x .work) e, ap (λ (x : Outcome). x .table) e)
 
 -- the length of a table is small, and that of a table with state numbers
 pub plan-few : (file work table : List ℕ) → ((i : ℕ) → at file i < 256) → plan file work table .size ≤ tableSize
@@ -59,12 +54,6 @@ pub states-have-bytes : (file work table states : List ℕ) → planStates file 
     → 0 < planStates file work table states .outcome .size
 states-have-bytes file work table states =
     states-each file work table states (λ (o : Outcome). o .number ≡ 0 → 0 < o .size) (table-has-bytes file work table) (λ z. absurd (omega arith))
-
--- the number and the size in the planner's answer are those of the rules' outcome
-pub planned-number : (p : Planned) (work table : List ℕ) (o : Outcome) → outcomeOf p work table ≡ o → (plannedNumber p ≡ o .number) × (plannedSize p ≡ o .size)
-unfolding plannedNumber plannedSize
-planned-number (planned.Table k) work table o e = (ap (λ (x : Outcome). x .number) e, ap (λ (x : Outcome). x .size) e)
-planned-number (planned.Refused q) work table o e = (ap (λ (x : Outcome). x .number) e, ap (λ (x : Outcome). x .size) e)
 
 -- where there is a table, nothing was refused
 pub size-number : (p : Planned) → (plannedSize p ≡ 0 → ⊥) → plannedNumber p ≡ 0

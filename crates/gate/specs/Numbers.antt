@@ -24,6 +24,11 @@ unfoldable pub plannedSize : Planned → ℕ
 plannedSize (planned.Table n) = n
 plannedSize (planned.Refused q) = 0
 
+-- each answer of the planner as one number
+unfoldable pub answerNumber : Planned → ℕ
+answerNumber (planned.Table n) = n
+answerNumber (planned.Refused q) = 65536 + q
+
 -- the number of each verdict: 0 passes
 unfoldable pub verdictNumber : Verdict → ℕ
 verdictNumber verdict.Passes = 0

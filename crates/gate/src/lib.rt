@@ -11,10 +11,23 @@ pub use table::check;
 pub use table::lookup;
 pub use table::name;
 ghost use mathlib.Core.Path.{_≡_};
+ghost use Prim.Native.Nat.{_≤_};
+ghost use Rattle.rules.specs.Sizes.{tableSize};
 ghost use Rattle.rules.specs.Fields.{numberOf};
 ghost use Rattle.rules.specs.Answers.{plan as Answers·plan, check as Answers·check, lookup as Answers·lookup};
 ghost use Rattle.rules.specs.States.{planStates};
-ghost use Rattle.gate.specs.Numbers.{planNumber, lookupNumber, nameNumber};
+ghost use Rattle.gate.specs.Numbers.{plannedSize, answerNumber, planNumber, lookupNumber, nameNumber};
+
+// An answer of the planner as one number: the length of the table; or 65536 and the number of the question that said no.
+fn number_of(p: Planned) -> u32
+    requires { ⌜ plannedSize p ≤ tableSize ⌝ }
+    ensures { λ r. ⌜ r ≡ answerNumber p ⌝ }
+{
+    match p {
+        Planned::Table(size) => size as u32,
+        Planned::Refused(number) => 65536 + (number as u32),
+    }
+}
 
 // The length of the table; or 65536 and the number of the question that said no.
 #[no_mangle]
@@ -23,11 +36,7 @@ pub extern "C" fn gate_plan(file: &[u8], work: &mut [u8], table: &mut [u8]) -> u
     ensures { λ _. ⌜ now (work .exit) ≡ Answers·plan (now (file .entry)) (now (work .entry)) (now (table .entry)) .work ⌝ }
     ensures { λ _. ⌜ now (table .exit) ≡ Answers·plan (now (file .entry)) (now (work .entry)) (now (table .entry)) .table ⌝ }
 {
-    let p = plan(file, work, table);
-    match p {
-        Planned::Table(size) => size as u32,
-        Planned::Refused(number) => 65536 + (number as u32),
-    }
+    number_of(plan(file, work, table))
 }
 
 // As gate_plan, and for a table the state number of each slot, two bytes each, low byte first; 65536 and 1 where there are fewer than 128 bytes for
@@ -44,11 +53,7 @@ pub extern "C" fn gate_states(
     ensures { λ _. ⌜ now (table .exit) ≡ planStates (now (file .entry)) (now (work .entry)) (now (table .entry)) (now (states .entry)) .outcome .table ⌝ }
     ensures { λ _. ⌜ now (states .exit) ≡ planStates (now (file .entry)) (now (work .entry)) (now (table .entry)) (now (states .entry)) .report ⌝ }
 {
-    let p = state_numbers(file, work, table, states);
-    match p {
-        Planned::Table(size) => size as u32,
-        Planned::Refused(number) => 65536 + (number as u32),
-    }
+    number_of(state_numbers(file, work, table, states))
 }
 
 // 0 where the table passes; else the number of the question that said no.

@@ -118,11 +118,11 @@ module _ {file table : List ℕ} (p : PlannedFor file table) where
         abbrev z : Times
         z = times s releases tails n L
 
-        held-same : (k : ℕ) → holding z k 0 ≡ heldJobs N (j .file .needs) (j .file .limit) k
+        held-same : (k : ℕ) → holding z k n ≡ heldJobs N (j .file .needs) (j .file .limit) k
         unfolding holding
         held-same k =
-            let e : n - 0 ≡ n = omega arith in
-            ap (λ (c : ℕ). filter (window (at releases) (at tails) L k) (range c 0)) e
+            let e : n - n ≡ 0 = omega arith in
+            ap (λ (i : ℕ). filter (window (at releases) (at tails) L k) (range n i)) e
             ∙ filter-same _ _ (range n 0) (λ i m. window-same i (range-below n i .0 m))
             ∙ ap₂ (λ (m l : ℕ). filter (window (release m (j .file .needs)) (tail m (j .file .needs)) l k) (range m 0)) (j .held .jobs-is) (j .held .limit-is)
             ∙ sym (held-window N (j .file .needs) (j .file .limit) k)

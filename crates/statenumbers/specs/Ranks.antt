@@ -72,17 +72,17 @@ pub record Times : Type 0 where
 abbrev pub times : List ℕ → List ℕ → List ℕ → ℕ → ℕ → Times
 times starts releases tails n L = record { starts = starts; releases = releases; tails = tails; jobs = n; limit = L }
 
--- the jobs from job i up whose windows hold slot s
+-- of the last so many jobs, those whose windows hold slot s
 unfoldable pub holding : Times → ℕ → ℕ → List ℕ
-holding z s i = filter (window (at (z .releases)) (at (z .tails)) (z .limit) s) (range (z .jobs - i) i)
+holding z s left = filter (window (at (z .releases)) (at (z .tails)) (z .limit) s) (range left (z .jobs - left))
 
 -- the ranks of slot s
 unfoldable pub ranksIn : Times → ℕ → Ranks
-ranksIn z s = rankedAll (at (z .starts)) s (holding z s 0) noRanks
+ranksIn z s = rankedAll (at (z .starts)) s (holding z s (z .jobs)) noRanks
 
 -- no more windows hold slot s than a byte has bits
 unfoldable pub Narrow : Times → ℕ → Type 0
-Narrow z s = length (holding z s 0) ≤ maxWidth
+Narrow z s = length (holding z s (z .jobs)) ≤ maxWidth
 
 -- ---- the number
 
@@ -169,66 +169,73 @@ none-number = refl
 
 -- the number of a slot has the digits of its jobs
 pub slot-number : (z : Times) (s : ℕ) → Narrow z s
-    → numberOf (ranksIn z s .begun) (ranksIn z s .running) ≡ baseThree (map (λ i. stateDigit s (at (z .starts) i)) (holding z s 0))
+    → numberOf (ranksIn z s .begun) (ranksIn z s .running) ≡ baseThree (map (λ i. stateDigit s (at (z .starts) i)) (holding z s (z .jobs)))
 unfolding ranksIn Narrow
-slot-number z s h = let w = number-all (at (z .starts)) s (holding z s 0) noRanks none-counted (omega (arith, h)) in
+slot-number z s h = let w = number-all (at (z .starts)) s (holding z s (z .jobs)) noRanks none-counted (omega (arith, h)) in
     omega (arith, w .2, none-number)
 
 -- and the ranks are in two bytes
 pub ranks-fit : (z : Times) (s : ℕ) → Narrow z s → RanksFit (ranksIn z s)
 unfolding ranksIn Narrow
 ranks-fit z s h =
-    let w = number-all (at (z .starts)) s (holding z s 0) noRanks none-counted (omega (arith, h)) in
+    let w = number-all (at (z .starts)) s (holding z s (z .jobs)) noRanks none-counted (omega (arith, h)) in
     counted-fit _ (w .0) (omega (arith, h, w .1))
 
 -- ---- job by job
 
--- before job i is asked: those from i up are to come, and then the ranks are those of the slot
-pub record RankedSoFar (z : Times) (s i : ℕ) (r : Ranks) : Type 0 where
-  pub short : i ≤ z .jobs
-  pub room : r .count + length (holding z s i) ≤ maxWidth
-  pub same : rankedAll (at (z .starts)) s (holding z s i) r ≡ ranksIn z s
+-- so many jobs are left to be asked, and with those of them that hold the slot the ranks are those of the slot
+pub record RankedSoFar (z : Times) (s left : ℕ) (r : Ranks) : Type 0 where
+  pub short : left ≤ z .jobs
+  pub room : r .count + length (holding z s left) ≤ maxWidth
+  pub same : rankedAll (at (z .starts)) s (holding z s left) r ≡ ranksIn z s
 
 module _ (z : Times) (s : ℕ) where
-  pub ranked-start : Narrow z s → RankedSoFar z s 0 noRanks
+  pub ranked-start : Narrow z s → RankedSoFar z s (z .jobs) noRanks
   unfolding Narrow ranksIn
   ranked-start h = record { short = omega arith; room = omega (arith, h); same = refl }
 
-  module _ {i : ℕ} {r : Ranks} (p : RankedSoFar z s i r) where
-    module _ (h : i < z .jobs) (b : Bool) (test : b ≡ window (at (z .releases)) (at (z .tails)) (z .limit) s i) where
-      abbrev later : List ℕ
-      later = holding z s (i + 1)
+  module _ {left : ℕ} {r : Ranks} (p : RankedSoFar z s left r) where
+    module _ (h : 0 < left) (b : Bool) (test : b ≡ window (at (z .releases)) (at (z .tails)) (z .limit) s (z .jobs - left)) where
+      -- the first of them, and those that hold the slot behind it
+      abbrev job : ℕ
+      job = z .jobs - left
 
-      left : holding z s i ≡ choose b (i ∷ later) later
+      abbrev later : List ℕ
+      later = holding z s (left - 1)
+
+      next : holding z s left ≡ choose b (job ∷ later) later
       unfolding holding filter range
-      left =
-          let e : z .jobs - i ≡ suc (z .jobs - (i + 1)) = omega arith in
-          rw (e, test, add-one i) refl
+      next =
+          let e : left ≡ suc (left - 1) = omega arith in
+          let q : suc (z .jobs - left) ≡ z .jobs - (left - 1) = omega (arith, p .short) in
+          ap (λ (k : ℕ). filter (window (at (z .releases)) (at (z .tails)) (z .limit) s) (range k (z .jobs - left))) e ∙ rw (test, q) refl
 
       -- its window holds the slot
-      pub ranked-yes : b ≡ true → (r .count < maxWidth) × ((r′ : Ranks) → r′ ≡ ranked s (at (z .starts) i) r → RankedSoFar z s (i + 1) r′)
-      ranked-yes e = (omega (arith, p .room, ap length more), next)
+      pub ranked-yes : b ≡ true
+          → (r .count < maxWidth) × ((r′ : Ranks) → r′ ≡ ranked s (at (z .starts) (z .jobs - left)) r → RankedSoFar z s (left - 1) r′)
+      ranked-yes e = (omega (arith, p .room, ap length more), turn)
         where
-          more : holding z s i ≡ i ∷ later
-          more = left ∙ choose-yes _ _ _ (T-true b .1 e)
+          more : holding z s left ≡ job ∷ later
+          more = next ∙ choose-yes _ _ _ (T-true b .1 e)
 
-          next : (r′ : Ranks) → r′ ≡ ranked s (at (z .starts) i) r → RankedSoFar z s (i + 1) r′
-          next r′ q = rw q record {
-            short = omega arith;
-            room = omega (arith, p .room, ap length more, ranked-count s (at (z .starts) i) r);
+          turn : (r′ : Ranks) → r′ ≡ ranked s (at (z .starts) job) r → RankedSoFar z s (left - 1) r′
+          turn r′ q = rw q record {
+            short = omega (arith, p .short);
+            room = omega (arith, p .room, ap length more, ranked-count s (at (z .starts) job) r);
             same = unfold rankedAll in (sym (ap (λ (l : List ℕ). rankedAll (at (z .starts)) s l r) more) ∙ p .same);
           }
 
       -- it does not
-      pub ranked-no : b ≡ false → RankedSoFar z s (i + 1) r
+      pub ranked-no : b ≡ false → RankedSoFar z s (left - 1) r
       ranked-no e =
-          let less : holding z s i ≡ later = left ∙ choose-no _ _ _ (λ t. present b (T-true b .0 t) e) in
+          let less : holding z s left ≡ later = next ∙ choose-no _ _ _ (λ t. present b (T-true b .0 t) e) in
           record {
-            short = omega arith;
+            short = omega (arith, p .short);
             room = omega (arith, p .room, ap length less);
             same = sym (ap (λ (l : List ℕ). rankedAll (at (z .starts)) s l r) less) ∙ p .same;
           }
 
-    pub ranked-end : z .jobs ≤ i → r ≡ ranksIn z s
+    -- none is left
+    pub ranked-end : left ≤ 0 → r ≡ ranksIn z s
     unfolding holding filter range rankedAll
-    ranked-end h = let e : z .jobs - i ≡ 0 = omega arith in rw e at (p .same)
+    ranked-end h = let e : left ≡ 0 = omega arith in rw e at (p .same)

@@ -91,12 +91,12 @@ fn ranks_in(
         begun: Set::EMPTY,
         running: Set::EMPTY,
     };
-    let mut job = 0;
-    while job < jobs {
-        let next = job;
-        job += 1;
-        if holds(release[next], tail[next], limit, slot) {
-            z = ranked(z, wide(starts[next]), slot);
+    let mut left = jobs;
+    while 0 < left {
+        let job = jobs - left;
+        left -= 1;
+        if holds(release[job], tail[job], limit, slot) {
+            z = ranked(z, wide(starts[job]), slot);
         }
     }
     z

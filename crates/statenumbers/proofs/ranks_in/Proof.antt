@@ -1,23 +1,26 @@
 -- `statenumbers::ranks_in` meets its contract. Assumes nothing.
-use mathlib.Core.Path.{ap, _∙_}
-use Prim.Native.Nat.{ℕ, _-_}
 use borrow.Author.Needs.{needs}
+use mathlib.Core.Path.{ap, _∙_}
+use Prim.Native.Nat.{ℕ}
 use Rattle.laws.specs.Width.{window}
 use Rattle.statenumbers.specs.Ranks.{ranked, times, RankedSoFar, ranked-start, ranked-yes, ranked-no, ranked-end}
 use Rattle.statenumbers.proofs.ranks_in.Statement.{statement}
 use Rattle.statenumbers.proofs.ranks_in.Tie as tie
 
 abbrev Inv-loop : tie.InvT-loop
-Inv-loop starts release tail jobs limit slot z₀ job₀ z job = RankedSoFar (times starts release tail jobs limit) slot job z
+Inv-loop starts release tail jobs limit slot z₀ left₀ z left = RankedSoFar (times starts release tail jobs limit) slot left z
 
 abbrev μ-loop : tie.MeasureT-loop
-μ-loop starts release tail jobs limit slot z₀ job₀ z job = jobs - job
+μ-loop starts release tail jobs limit slot z₀ left₀ z left = left
 
 loop-holds : tie.Need-loop-holds Inv-loop μ-loop
 loop-holds c = ranked-start _ _ (c .pre .2)
 
-add-job : tie.Need-add-job Inv-loop μ-loop
-add-job c = search needs
+sub-job : tie.Need-sub-job Inv-loop μ-loop
+sub-job c = search needs
+
+sub-left : tie.Need-sub-left Inv-loop μ-loop
+sub-left c = search needs
 
 mul-holds : tie.Need-mul-holds Inv-loop μ-loop
 mul-holds c = search needs
@@ -42,7 +45,7 @@ wide-requires c κs = search needs
 
 ranked-requires : tie.Need-ranked-requires Inv-loop μ-loop
 unfolding window
-ranked-requires c κs =
+ranked-requires c κs = 
     let t = c .before .before .before in
     let l = t .before .before .before .before .loop in
     ranked-yes _ _ (l .inv) (t .before .before .before .loop-test .taken) _ (t .holds .ensures) (c .before .before .if1 .taken) .0
@@ -52,7 +55,7 @@ loop-less c = search needs
 
 loop-again : tie.Need-loop-again Inv-loop μ-loop
 unfolding window
-loop-again c =
+loop-again c = 
     let t = c .before .before .before .before in
     let l = t .before .before .before .before .loop in
     let turn = ranked-yes _ _ (l .inv) (t .before .before .before .loop-test .taken) _ (t .holds .ensures) (c .before .before .before .if1 .taken) in
@@ -63,7 +66,7 @@ loop-less-2 c = search needs
 
 loop-again-2 : tie.Need-loop-again-2 Inv-loop μ-loop
 unfolding window
-loop-again-2 c =
+loop-again-2 c = 
     let t = c .before in
     ranked-no _ _ (t .before .before .before .before .loop .inv) (t .before .before .before .loop-test .taken) _ (t .holds .ensures) (c .if1 .left)
 
@@ -77,7 +80,8 @@ ranks-in-spec =
     Inv-loop
     μ-loop
     loop-holds
-    add-job
+    sub-job
+    sub-left
     mul-holds
     element-copy-out-holds
     mul-holds-2
