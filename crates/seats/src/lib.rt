@@ -282,9 +282,10 @@ fn behind(release: u16, limit: usize) -> usize
 fn put_threes(tables: &mut [u16; TABLES])
     ensures { λ _. ⌜ now (tables .exit) ≡ withThrees (now (tables .entry)) ⌝ }
 {
+    let entries = threes::THREES;
     let mut byte = 0;
     while byte < PLACE_SETS {
-        tables[THREE + byte] = threes::entry(byte as u8);
+        tables[THREE + byte] = entries[byte];
         byte += 1;
     }
 }

@@ -36,8 +36,8 @@ use Rattle.jobfile.specs.Reading.{Reads}
 use Rattle.planner.specs.Planner.{outcomeOf, JobsRead}
 use Rattle.planner.specs.declared.Planned.{Planned}
 use Rattle.planner.specs.declared.Planned.the-variants as planned
-use Rattle.statenumbers.specs.Ranks.{Times, times, holding, Narrow, slot-number}
-use Rattle.statenumbers.specs.Slots.{slotBytes, slotsBytes, bytes-count}
+use Rattle.slotstates.specs.Ranks.{Times, times, holding, Narrow, slot-number}
+use Rattle.slotstates.specs.Slots.{slotBytes, slotsBytes, bytes-count}
 
 -- the planner gives a table for the file, and these are its bytes
 pub record PlannedFor (file table : List ℕ) : Type 0 where

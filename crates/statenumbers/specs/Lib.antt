@@ -1,4 +1,2 @@
--- The ranks of a slot and its number (Ranks), the bytes of all slots (Slots), and the answer (Answer).
-pub mod Ranks
-pub mod Slots
+-- The job file and the planned table read once more, and the answer of the call.
 pub mod Answer

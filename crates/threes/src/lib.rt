@@ -5,7 +5,7 @@ ghost use mathlib.Core.Path.{_≡_};
 ghost use Rattle.threes.specs.Threes.{entry};
 
 // Entry b is for the byte b.
-const THREES: [u16; 256] = [
+pub const THREES: [u16; 256] = [
     0,
     1,
     3,

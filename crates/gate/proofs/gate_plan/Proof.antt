@@ -11,7 +11,7 @@ plan-requires : tie.Need-plan-requires
 plan-requires c κs = search needs
 
 number-of-requires : tie.Need-number-of-requires
-number-of-requires c κs = 
+number-of-requires c κs =
     let p = c .before .before .before .before .plan in
     let a = c .before .before .before .before .before .before .before .before .before .before .args in
     let bytes = c .before .before .before .before .before .before .before .before .before .shared-slice-known .given in
@@ -25,7 +25,7 @@ same-length-2 : tie.Need-same-length-2
 same-length-2 c = search needs
 
 returns : tie.Need-returns
-returns c = 
+returns c =
     let p = c .before .before .before .before .before .plan in
     (c .number-of .ensures ∙ answer-number (p .result) _ _ _ (p .ensures) (table-has-bytes _ _ _), buffers-left (p .result) _ _ _ (p .ensures))
 

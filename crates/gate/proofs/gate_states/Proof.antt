@@ -10,7 +10,7 @@ state-numbers-requires : tie.Need-state-numbers-requires
 state-numbers-requires c κs = search needs
 
 number-of-requires : tie.Need-number-of-requires
-number-of-requires c κs = 
+number-of-requires c κs =
     let p = c .before .before .before .before .before .before .state-numbers in
     let a = c .before .before .before .before .before .before .before .before .before .before .before .before .before .before .args in
     let bytes = c .before .before .before .before .before .before .before .before .before .before .before .before .before .shared-slice-known .given in
@@ -27,7 +27,7 @@ same-length-3 : tie.Need-same-length-3
 same-length-3 c = search needs
 
 returns : tie.Need-returns
-returns c = 
+returns c =
     let p = c .before .before .before .before .before .before .before .state-numbers in
     let w = buffers-left (p .result) _ _ _ (p .ensures .0) in
     (c .number-of .ensures ∙ answer-number (p .result) _ _ _ (p .ensures .0) (states-have-bytes _ _ _ _), (w .0, (w .1, p .ensures .1)))

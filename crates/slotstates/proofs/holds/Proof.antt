@@ -1,12 +1,12 @@
--- `statenumbers::holds` meets its contract. Assumes nothing.
+-- `slotstates::holds` meets its contract. Assumes nothing.
 use mathlib.Core.Path.{refl}
 use Prim.Native.Nat.{_≤_}
 use native.Mathlib.Omega.{arith}
 use borrow.Author.Needs.{needs}
 use lib.Dec.{T, leb}
 use Rattle.laws.specs.Tests.{T-true, T-false, T-leb}
-use Rattle.statenumbers.proofs.holds.Statement.{statement}
-use Rattle.statenumbers.proofs.holds.Tie as tie
+use Rattle.slotstates.proofs.holds.Statement.{statement}
+use Rattle.slotstates.proofs.holds.Tie as tie
 
 index-requires : tie.Need-index-requires
 index-requires c κs = search needs

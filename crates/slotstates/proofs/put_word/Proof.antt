@@ -1,4 +1,4 @@
--- `statenumbers::put_word` meets its contract. Assumes nothing.
+-- `slotstates::put_word` meets its contract. Assumes nothing.
 use mathlib.Core.Path.{refl}
 use Prim.Native.Nat.{_%_}
 use native.Mathlib.Omega.{arith}
@@ -6,8 +6,8 @@ use borrow.Author.Needs.{needs}
 use lib.ListN.{length-set}
 use Rattle.rules.specs.Numbers.{low, high}
 use Rattle.laws.specs.Writing.{put}
-use Rattle.statenumbers.proofs.put_word.Statement.{statement}
-use Rattle.statenumbers.proofs.put_word.Tie as tie
+use Rattle.slotstates.proofs.put_word.Statement.{statement}
+use Rattle.slotstates.proofs.put_word.Tie as tie
 
 cast-states : tie.Need-cast-states
 cast-states c = search needs

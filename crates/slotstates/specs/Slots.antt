@@ -8,7 +8,7 @@ use Rattle.rules.specs.Numbers.{low, high}
 use Rattle.laws.specs.Counting.{length-range}
 use Rattle.laws.specs.Writing.{length-joined}
 use Rattle.threes.specs.Threes.{numberOf}
-use Rattle.statenumbers.specs.Ranks.{Times, ranksIn}
+use Rattle.slotstates.specs.Ranks.{Times, ranksIn}
 
 -- the number of slot s: its two bytes
 unfoldable pub slotBytes : Times → ℕ → List ℕ

@@ -1,11 +1,11 @@
--- `statenumbers::ranks_in` meets its contract. Assumes nothing.
+-- `slotstates::ranks_in` meets its contract. Assumes nothing.
 use borrow.Author.Needs.{needs}
 use mathlib.Core.Path.{ap, _∙_}
 use Prim.Native.Nat.{ℕ}
 use Rattle.laws.specs.Width.{window}
-use Rattle.statenumbers.specs.Ranks.{ranked, times, RankedSoFar, ranked-start, ranked-yes, ranked-no, ranked-end}
-use Rattle.statenumbers.proofs.ranks_in.Statement.{statement}
-use Rattle.statenumbers.proofs.ranks_in.Tie as tie
+use Rattle.slotstates.specs.Ranks.{ranked, times, RankedSoFar, ranked-start, ranked-yes, ranked-no, ranked-end}
+use Rattle.slotstates.proofs.ranks_in.Statement.{statement}
+use Rattle.slotstates.proofs.ranks_in.Tie as tie
 
 abbrev Inv-loop : tie.InvT-loop
 Inv-loop starts release tail jobs limit slot z₀ left₀ z left = RankedSoFar (times starts release tail jobs limit) slot left z
@@ -45,7 +45,7 @@ wide-requires c κs = search needs
 
 ranked-requires : tie.Need-ranked-requires Inv-loop μ-loop
 unfolding window
-ranked-requires c κs = 
+ranked-requires c κs =
     let t = c .before .before .before in
     let l = t .before .before .before .before .loop in
     ranked-yes _ _ (l .inv) (t .before .before .before .loop-test .taken) _ (t .holds .ensures) (c .before .before .if1 .taken) .0
@@ -55,7 +55,7 @@ loop-less c = search needs
 
 loop-again : tie.Need-loop-again Inv-loop μ-loop
 unfolding window
-loop-again c = 
+loop-again c =
     let t = c .before .before .before .before in
     let l = t .before .before .before .before .loop in
     let turn = ranked-yes _ _ (l .inv) (t .before .before .before .loop-test .taken) _ (t .holds .ensures) (c .before .before .before .if1 .taken) in
@@ -66,7 +66,7 @@ loop-less-2 c = search needs
 
 loop-again-2 : tie.Need-loop-again-2 Inv-loop μ-loop
 unfolding window
-loop-again-2 c = 
+loop-again-2 c =
     let t = c .before in
     ranked-no _ _ (t .before .before .before .before .loop .inv) (t .before .before .before .loop-test .taken) _ (t .holds .ensures) (c .if1 .left)
 

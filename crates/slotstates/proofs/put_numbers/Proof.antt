@@ -1,4 +1,4 @@
--- `statenumbers::put_numbers` meets its contract. Assumes nothing.
+-- `slotstates::put_numbers` meets its contract. Assumes nothing.
 use mathlib.Core.Path.{sym, ap, subst, _∙_}
 use mathlib.Core.List.{[], _∷_}
 use Prim.Native.Nat.{ℕ, _-_, _*_}
@@ -7,11 +7,11 @@ use borrow.Author.Needs.{needs}
 use Rattle.rules.specs.Numbers.{low, high}
 use Rattle.laws.specs.Writing.{put, WrittenSoFar, so-far-start, so-far-put, so-far-end}
 use Rattle.threes.specs.Threes.{numberOf}
-use Rattle.statenumbers.specs.declared.Ranks.{Ranks}
-use Rattle.statenumbers.specs.Ranks.{times, RanksFit, ranks-fit}
-use Rattle.statenumbers.specs.Slots.{slotBytes, slotsBytes}
-use Rattle.statenumbers.proofs.put_numbers.Statement.{statement}
-use Rattle.statenumbers.proofs.put_numbers.Tie as tie
+use Rattle.slotstates.specs.declared.Ranks.{Ranks}
+use Rattle.slotstates.specs.Ranks.{times, RanksFit, ranks-fit}
+use Rattle.slotstates.specs.Slots.{slotBytes, slotsBytes}
+use Rattle.slotstates.proofs.put_numbers.Statement.{statement}
+use Rattle.slotstates.proofs.put_numbers.Tie as tie
 
 abbrev Inv-loop : tie.InvT-loop
 Inv-loop starts release tail jobs limit slots states₀ slot₀ states slot =

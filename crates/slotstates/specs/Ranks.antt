@@ -19,7 +19,7 @@ use Rattle.jobset.specs.Sets.{digit, member, empty, with}
 use Rattle.jobset.specs.Bounds.{with-lt, member-lt}
 use Rattle.jobset.specs.Tests.{absent, present}
 use Rattle.threes.specs.Threes.{threesTo, threes, numberOf, threes-with}
-use Rattle.statenumbers.specs.declared.Ranks.{Ranks}
+use Rattle.slotstates.specs.declared.Ranks.{Ranks}
 
 -- ---- what the functions give
 
@@ -99,7 +99,7 @@ pub counted-fit : (z : Ranks) → Counted z → z .count ≤ maxWidth → RanksF
 counted-fit z c h = let p = pow-mono {i = z .count} {j = 8} h in omega (arith, c .begun-lt, c .running-lt)
 
 -- one job more is counted
-ranked-count : (s t : ℕ) (z : Ranks) → ranked s t z .count ≡ z .count + 1
+pub ranked-count : (s t : ℕ) (z : Ranks) → ranked s t z .count ≡ z .count + 1
 unfolding ranked
 ranked-count s t z = go (ltb s t) (ltb t s)
   where
@@ -136,7 +136,7 @@ number-ranked s t z c h = go (ltb s t) (ltb t s)
     )
 
 -- jobs that follow add theirs at the ranks from the count up
-number-all : (start : ℕ → ℕ) (s : ℕ) (is : List ℕ) (z : Ranks) → Counted z → z .count + length is ≤ maxWidth
+pub number-all : (start : ℕ → ℕ) (s : ℕ) (is : List ℕ) (z : Ranks) → Counted z → z .count + length is ≤ maxWidth
     → Counted (rankedAll start s is z) × (rankedAll start s is z .count ≡ z .count + length is)
     × (numberOf (rankedAll start s is z .begun) (rankedAll start s is z .running)
     ≡ numberOf (z .begun) (z .running) + 3 ^ z .count * baseThree (map (λ i. stateDigit s (start i)) is))
@@ -160,10 +160,10 @@ number-all start s (i ∷ is) z c h =
         ≡ numberOf (z .begun) (z .running) + 3 ^ z .count * (d + 3 * rest)
     sum e q = rw (e, q, add-one (z .count), pow-suc 3 (z .count)) (omega (arith, mul-add (3 ^ z .count) d (3 * rest), mul-assoc (3 ^ z .count) 3 rest))
 
-none-counted : Counted noRanks
+pub none-counted : Counted noRanks
 none-counted = record { begun-lt = omega arith; running-lt = omega arith }
 
-none-number : numberOf empty empty ≡ 0
+pub none-number : numberOf empty empty ≡ 0
 unfolding numberOf threes threesTo member digit choose
 none-number = refl
 

@@ -1,9 +1,9 @@
--- `statenumbers::number_of` meets its contract. Assumes nothing.
+-- `slotstates::number_of` meets its contract. Assumes nothing.
 use native.Mathlib.Omega.{arith}
 use borrow.Author.Needs.{needs}
 use Rattle.threes.specs.Threes.{numberOf, number-lt}
-use Rattle.statenumbers.proofs.number_of.Statement.{statement}
-use Rattle.statenumbers.proofs.number_of.Tie as tie
+use Rattle.slotstates.proofs.number_of.Statement.{statement}
+use Rattle.slotstates.proofs.number_of.Tie as tie
 
 cast-entry : tie.Need-cast-entry
 cast-entry c = search needs

@@ -1,8 +1,8 @@
--- `statenumbers::ranked` meets its contract. Assumes nothing.
+-- `slotstates::ranked` meets its contract. Assumes nothing.
 use borrow.Author.Needs.{needs}
-use Rattle.statenumbers.specs.Ranks.{ranked-later, ranked-earlier, ranked-now}
-use Rattle.statenumbers.proofs.ranked.Statement.{statement}
-use Rattle.statenumbers.proofs.ranked.Tie as tie
+use Rattle.slotstates.specs.Ranks.{ranked-later, ranked-earlier, ranked-now}
+use Rattle.slotstates.proofs.ranked.Statement.{statement}
+use Rattle.slotstates.proofs.ranked.Tie as tie
 
 add-t8 : tie.Need-add-t8
 add-t8 c = search needs
