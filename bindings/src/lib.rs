@@ -1,4 +1,4 @@
-//! Safe Rust forms of the slot-table library `libgate.a`: plan, check, look up.
+//! Safe Rust forms of the slot-table library `libgate.a`: plan, give state numbers, check, look up.
 //!
 //! No call allocates, keeps anything between calls or changes a file or a table that it reads. Every input is
 //! allowed: a bad one is refused with the number of the first question that it fails.
@@ -16,6 +16,16 @@ pub mod c {
             table: *mut u8,
             table_len: usize,
         ) -> u32;
+        pub fn gate_states(
+            file: *const u8,
+            file_len: usize,
+            work: *mut u8,
+            work_len: usize,
+            table: *mut u8,
+            table_len: usize,
+            states: *mut u8,
+            states_len: usize,
+        ) -> u32;
         pub fn gate_check(file: *const u8, file_len: usize, table: *const u8, table_len: usize) -> u32;
         pub fn gate_lookup(table: *const u8, table_len: usize, slot: usize, board: usize) -> u32;
         pub fn gate_name_at(table: *const u8, table_len: usize, slot: usize, board: usize) -> u32;
@@ -24,11 +34,13 @@ pub mod c {
 
 /// The longest job file that is read.
 pub const FILE_BYTES: usize = 49_152;
-/// The working buffer that `plan` needs; it comes back zeroed.
+/// The working buffer that `plan` and `states` need; it comes back zeroed.
 pub const WORK_BYTES: usize = 65_536;
-/// The table buffer that `plan` needs: the longest table.
+/// The table buffer that `plan` and `states` need: the longest table.
 pub const TABLE_BYTES: usize = 7_606;
-/// What `gate_plan` and `gate_lookup` add to the number of a refusal.
+/// The buffer for state numbers that `states` needs: two bytes for each of 64 slots.
+pub const STATES_BYTES: usize = 128;
+/// What `gate_plan`, `gate_states` and `gate_lookup` add to the number of a refusal.
 pub const REFUSED: u32 = 65_536;
 
 /// The number of the first question that got a "no".
@@ -48,6 +60,31 @@ pub fn plan(file: &[u8], work: &mut [u8], table: &mut [u8]) -> Result<usize, Ref
     let answer = unsafe {
         c::gate_plan(file.as_ptr(), file.len(), work.as_mut_ptr(), work.len(), table.as_mut_ptr(), table.len())
     };
+    length_or_refusal(answer)
+}
+
+/// Plans a job file as `plan` does, with the same answer, and puts the state number of each slot of the table, 0 to 6560, into
+/// the first bytes of `states`, two bytes a slot, low byte first: in base three a digit for each job whose window holds the
+/// slot, the lowest job's the lowest; 0 not done, 1 done in an earlier slot, 2 running now. Bytes behind them, and all after
+/// a refusal, are untouched. With fewer than `STATES_BYTES` there the refusal is 1, and no buffer is touched.
+pub fn states(file: &[u8], work: &mut [u8], table: &mut [u8], states: &mut [u8]) -> Result<usize, Refusal> {
+    // SAFETY: each pointer comes with the length of its own slice, and mutable slices overlap with nothing.
+    let answer = unsafe {
+        c::gate_states(
+            file.as_ptr(),
+            file.len(),
+            work.as_mut_ptr(),
+            work.len(),
+            table.as_mut_ptr(),
+            table.len(),
+            states.as_mut_ptr(),
+            states.len(),
+        )
+    };
+    length_or_refusal(answer)
+}
+
+fn length_or_refusal(answer: u32) -> Result<usize, Refusal> {
     if answer < REFUSED {
         Ok(answer as usize)
     } else {

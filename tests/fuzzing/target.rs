@@ -6,8 +6,9 @@ use gate_tests::generate::drafts::field;
 use gate_tests::generate::random::Random;
 use gate_tests::reference::entries::{self, WORK_BYTES};
 use gate_tests::reference::reading::{take_field, LONGEST_FILE};
+use gate_tests::reference::states::STATES_BYTES;
 use gate_tests::reference::table::{Table, LONGEST_TABLE};
-use gate_tests::stage::{Stage, Verdict, LONGEST_INPUT};
+use gate_tests::stage::{Stage, Verdict, LONGEST_INPUT, LONGEST_STATES};
 use std::cell::RefCell;
 
 struct Target {
@@ -48,13 +49,20 @@ pub unsafe extern "C" fn LLVMFuzzerTestOneInput(bytes: *const u8, length: usize)
     0
 }
 
-/// The sizes of the buffers and whether a comment fills the file up to the longest that is read or one byte more; file.
+/// The sizes of the buffers and whether a comment fills the file up to the longest that is read or one byte more; file. It is
+/// planned by both calls.
 fn plan(stage: &mut Stage, random: &mut Random, first: u8, second: u8, rest: &[u8]) -> Verdict {
     let work = [WORK_BYTES, WORK_BYTES + 1, WORK_BYTES - 1, 0][(first / 64) as usize];
     let table = [LONGEST_TABLE, LONGEST_TABLE + 1, LONGEST_TABLE - 1, 0][(second / 64) as usize];
+    let enough = [STATES_BYTES, STATES_BYTES + 1, LONGEST_STATES][(first / 8 % 3) as usize];
+    let states = [enough, enough, enough, STATES_BYTES - 1][(first / 2 % 4) as usize];
     let room = (LONGEST_FILE + (first % 2) as usize).saturating_sub(rest.len() + 3);
     let filling = if second % 64 == 63 { field(5, &vec![0; room]) } else { Vec::new() };
-    stage.plan(random, &[rest, &filling].concat(), work, table).1
+    let file = [rest, &filling].concat();
+    // with a buffer too short the answer is 1, whatever the file is
+    let planned = if work < WORK_BYTES || table < LONGEST_TABLE { Err(1) } else { entries::plan(&file) };
+    stage.plan(random, &file, &planned, work, table).1?;
+    stage.states(random, &file, &planned, [work, table, states]).1
 }
 
 /// The length of the file; file, table.
@@ -74,7 +82,7 @@ fn lookup(stage: &mut Stage, random: &mut Random, first: u8, second: u8, rest: &
 fn changed(stage: &mut Stage, random: &mut Random, first: u8, second: u8, rest: &[u8]) -> Verdict {
     let (changes, file) = rest.split_at((3 * (first % 8) as usize).min(rest.len()));
     let planned = if first & 16 != 0 { without_boards(file) } else { file.to_vec() };
-    let mut table = entries::plan(&planned, WORK_BYTES, LONGEST_TABLE).unwrap_or_default();
+    let mut table = entries::table(&planned).unwrap_or_default();
     for change in changes.chunks_exact(3) {
         let at = u16::from_le_bytes([change[0], change[1]]) as usize % table.len().max(1);
         if let Some(byte) = table.get_mut(at) {

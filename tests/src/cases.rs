@@ -4,6 +4,7 @@ use crate::generate::drafts::{self, boards_field, field, Draft};
 use crate::generate::random::Random;
 use crate::generate::shapes::{self, Shape};
 use crate::generate::{damage, grown, hard, limits, many, tables};
+use crate::reference::entries;
 use crate::reference::implied::{self, implied_needs};
 use crate::reference::lists;
 use crate::reference::needs::Graph;
@@ -418,7 +419,7 @@ fn few_jobs_or_any(random: &mut Random) -> Draft {
 
 /// A table for the draft that may be right or wrong.
 fn some_table(draft: &Draft) -> Vec<u8> {
-    crate::reference::entries::plan(&draft.bytes(), usize::MAX, usize::MAX).unwrap_or_default()
+    entries::table(&draft.bytes()).unwrap_or_default()
 }
 
 /// Files around the longest that is read, and bytes that are no file at all.

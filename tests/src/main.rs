@@ -1,6 +1,7 @@
 //! compare [SEED] [COUNT] [FIRST]: the named cases, all needs between few jobs, every small gate, and the generated files of a seed from index FIRST
-//! on; and, if GATE_PLAN, GATE_IMPLIED and GATE_SMALL name them, the planning program, the one that lists the needs that
-//! follow from others and the one that prints every small gate. The last two lines say how many of each kind passed, and
+//! on; and, if GATE_PLAN, GATE_IMPLIED, GATE_SMALL, GATE_STATES and GATE_STATE_TABLE name them, the planning program, the one that
+//! lists the needs that follow from others, the one that prints every small gate, the one that prints a file's state numbers and
+//! the one that prints the table that they are made with. The last two lines say how many of each kind passed, and
 //! 'N passed, M failed'.
 
 use gate_tests::{cases, paper, program, tester::Tester};
@@ -35,6 +36,14 @@ fn main() -> ExitCode {
     match std::env::var("GATE_SMALL") {
         Ok(name) => program::small_gates(&mut tester, &name),
         Err(_) => println!("the program small_gates is not there: not tried"),
+    }
+    match std::env::var("GATE_STATES") {
+        Ok(name) => program::states(&mut tester, &name, seed, count / 40),
+        Err(_) => println!("the program states is not there: not tried"),
+    }
+    match std::env::var("GATE_STATE_TABLE") {
+        Ok(name) => program::state_table(&mut tester, &name),
+        Err(_) => println!("the program state_table is not there: not tried"),
     }
     tester.report.print();
     if tester.report.failed == 0 {

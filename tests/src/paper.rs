@@ -1,5 +1,5 @@
 //! The cases that document 01 names, with their answers written out, and others whose answer its text settles, or that
-//! of requests 4, 5, 6, 8, 12, 13 and 14 in document 02.
+//! of requests 4, 5, 6, 8, 11, 12, 13 and 14 in document 02.
 
 use crate::generate::drafts::{boards_field, field, job_field, need_field, wide_need_field, Draft};
 use crate::reference::entries::table_of;
@@ -7,6 +7,7 @@ use crate::reference::implied::implied_needs;
 use crate::reference::needs::Graph;
 use crate::reference::reading::read;
 use crate::reference::small::small_gates;
+use crate::reference::states;
 use crate::reference::table::{half_away, Row, Table};
 use crate::reference::text::{printed, printed_gates, printed_needs};
 use crate::report::{shown, Of};
@@ -49,6 +50,8 @@ pub fn run(tester: &mut Tester) {
     }
     named_small_gates(tester);
     printed_example(tester);
+    state_numbers(tester);
+    every_state(tester);
     checked(tester);
     checked_with_many_jobs(tester);
     checked_with_most_boards(tester);
@@ -418,6 +421,109 @@ fn listed_cases() -> Vec<(&'static str, Draft, &'static str)> {
         ("a circle of three", plain(3, &[(1, 2), (2, 3), (3, 1)]), "refused 11\n"),
         ("a circle beside a need that follows", plain(5, &[&shortcut[..], &[(4, 5), (5, 4)]].concat()), "refused 11\n"),
     ]
+}
+
+/// Files, and the state numbers of their slots; among them each file above that the planner refuses.
+pub fn states_cases() -> Vec<(&'static str, Vec<u8>, Result<Vec<u16>, u8>)> {
+    let refused = named_cases().into_iter().filter_map(|(name, file, answer)| match answer {
+        Refused(number) => Some((name, file, Err(number))),
+        Planned(..) => None,
+    });
+    let shown = shown_cases().into_iter().map(|(name, draft, numbers)| (name, draft.bytes(), Ok(numbers)));
+    shown.chain(refused).collect()
+}
+
+/// The numbers are worked out by hand: behind each the windows of the jobs, first slot to last.
+fn shown_cases() -> Vec<(&'static str, Draft, Vec<u16>)> {
+    let plain = Draft::plain;
+    let (takers, givers) = ([(1, 2), (1, 3)], [(1, 3), (2, 3)]);
+    let late = [(1, 2), (1, 3), (3, 4)];
+    let most = |boards, draft: Draft| Draft { boards: Some(boards), ..draft };
+    vec![
+        ("one job, limit 1", plain(1, 1, &[]), vec![2]),
+        ("one job, limit 64", plain(64, 1, &[]), vec![2]),
+        ("two givers, limit 3: 0-1 0-1 2-2", plain(3, 3, &givers), vec![8, 4, 2]),
+        ("two givers, limit 4: 0-2 0-2 2-3", plain(4, 3, &givers), vec![8, 4, 1 + 3 + 18]),
+        ("two takers, limit 3: 0-0 1-2 1-2", plain(3, 3, &takers), vec![2, 2, 1 + 6]),
+        ("two takers, limit 4: 0-1 1-3 1-3", plain(4, 3, &takers), vec![2, 1 + 6, 1 + 6]),
+        (
+            "figure 1, limit 6: 0-2 0-2 1-4 1-4 2-3 3-5 3-5 3-5",
+            plain(6, 8, &FIGURE_1),
+            vec![8, 1 + 3 + 18, 1 + 3 + 9 + 54 + 162, 1 + 3 + 9 + 54 + 162, 1 + 3 + 9 + 27 + 162],
+        ),
+        (
+            "figure 1, limit 5, the same table: 0-1 0-1 1-3 1-3 2-2 3-4 3-4 3-4",
+            plain(5, 8, &FIGURE_1),
+            vec![8, 1 + 3 + 18, 1 + 6 + 18, 1 + 3 + 18 + 54, 1 + 3 + 18],
+        ),
+        ("a job after one with a higher number: 0-1 1-3 1-2 2-3", plain(4, 4, &late), vec![2, 1 + 18, 2 + 3 + 18]),
+        ("a chain of 3, limit 3", Draft::chain(3, 3), vec![2, 2, 2]),
+        ("a chain of 3, limit 5: 0-2 1-3 2-4", Draft::chain(5, 3), vec![2, 1 + 6, 1 + 3 + 18]),
+        (
+            "a chain from job 3 to job 1, limit 5: 2-4 1-3 0-2",
+            plain(5, 3, &[(3, 2), (2, 1)]),
+            vec![2, 2 + 3, 2 + 3 + 9],
+        ),
+        (
+            "a chain of 9, limit 16: each window is 8 long",
+            Draft::chain(16, 9),
+            vec![2, 7, 22, 67, 202, 607, 1_822, 5_467, 5_467],
+        ),
+        ("a chain of 64, limit 64", Draft::chain(64, 64), vec![2; 64]),
+        ("eight jobs, limit 1", plain(1, 8, &[]), vec![6_560]),
+        ("eight jobs, limit 64: none is left to do", plain(64, 8, &[]), vec![6_560]),
+        ("eight jobs, most boards 4, limit 2", most(4, plain(2, 8, &[])), vec![80, 40 + 80 * 81]),
+        ("eight jobs, most boards 3, limit 3", most(3, plain(3, 8, &[])), vec![26, 13 + 26 * 27, 364 + 8 * 729]),
+        ("eight jobs, most boards 1, limit 8", most(1, plain(8, 8, &[])), vec![2, 7, 22, 67, 202, 607, 1_822, 5_467]),
+        ("eight chains of 50, limit 50", Draft::side_by_side(50, 8, 50), vec![6_560; 50]),
+    ]
+}
+
+/// The library's numbers for these files; and buffers of every length for some that are planned and some that are not.
+fn state_numbers(tester: &mut Tester) {
+    for (name, file, numbers) in states_cases() {
+        tester.label = name.to_string();
+        let found = tester.states("named: states", &file).map(|written| written.states);
+        let right = found == numbers.map(|numbers| states::bytes(&numbers));
+        let verdict = if right { Ok(()) } else { Err(format!("{found:?}")) };
+        tester.report.case(Of::Answer, "named: the state numbers", verdict, || name.to_string());
+    }
+    let refused = [Draft::chain(17, 9), Draft::chain(8, 9)].map(|draft| draft.bytes());
+    let planned = [Draft::plain(6, 8, &FIGURE_1), Draft::chain(64, 64), Draft::side_by_side(50, 8, 50)];
+    for file in planned.map(|draft| draft.bytes()).into_iter().chain(refused).chain([Vec::new(), vec![9; 49_153]]) {
+        tester.label = format!("{} bytes", file.len());
+        tester.states_in_all("named: states, buffers of every length", &file);
+    }
+}
+
+/// Of the reference: the entry for each byte is the number whose digits are the byte's bits; and every state of eight jobs has a
+/// number of its own, below 6,561, which is the entry for those that are done or running plus the entry for those that are running.
+fn every_state(tester: &mut Tester) {
+    let group = "named: the reference's state numbers";
+    let entries = states::entries();
+    let by_bits: Vec<u16> = (0..256).map(|byte| states::number(&bits(byte))).collect();
+    let right = entries == by_bits && entries[2] == 3 && entries[255] == 3_280;
+    let verdict = if right { Ok(()) } else { Err(format!("{entries:?}")) };
+    tester.report.case(Of::Reference, group, verdict, || "the entries".to_string());
+    let pairs = (0..256).flat_map(|begun| (0..256).map(move |running| (begun, running)));
+    let mut numbers = Vec::new();
+    let mut wrong = Vec::new();
+    for (begun, running) in pairs.filter(|(begun, running)| running & !begun == 0) {
+        let digits: Vec<u16> = bits(begun).iter().zip(bits(running)).map(|(begun, running)| begun + running).collect();
+        numbers.push(states::number(&digits));
+        if numbers.last() != Some(&(entries[begun as usize] + entries[running as usize])) {
+            wrong.push(digits);
+        }
+    }
+    numbers.sort();
+    let right = wrong.is_empty() && numbers.into_iter().eq(0..6_561);
+    let verdict = if right { Ok(()) } else { Err(format!("{wrong:?}, or numbers that come twice")) };
+    tester.report.case(Of::Reference, group, verdict, || "all states of eight jobs".to_string());
+}
+
+/// The bits of a byte, the lowest first.
+fn bits(byte: u16) -> Vec<u16> {
+    (0..8).map(|bit| byte >> bit & 1).collect()
 }
 
 /// Of the reference's small gates: how many there are of 1 to 4 jobs, the first four lines and the last; and lines that

@@ -1,5 +1,5 @@
-//! Tries the programs: what they print for named and generated files, each on their standard input, and what the one
-//! without input prints.
+//! Tries the programs: what they print for named and generated files, each on their standard input, and what those
+//! without input print.
 
 use crate::generate::drafts::Draft;
 use crate::generate::random::Random;
@@ -9,12 +9,16 @@ use crate::reference::entries;
 use crate::reference::implied;
 use crate::reference::reading::LONGEST_FILE;
 use crate::reference::small;
-use crate::reference::text::{printed, printed_gates, printed_needs};
+use crate::reference::states;
+use crate::reference::text::{printed, printed_gates, printed_needs, printed_numbers, printed_states};
 use crate::report::{shown, Of};
 use crate::stage::Verdict;
 use crate::tester::Tester;
 use std::io::{Error, Result, Write};
+use std::path::PathBuf;
 use std::process::{Command, Stdio};
+
+const SAMPLES: &str = concat!(env!("CARGO_MANIFEST_DIR"), "/../samples");
 
 /// The planning program.
 pub fn plan(tester: &mut Tester, program: &str, seed: u64, count: u64) {
@@ -23,7 +27,7 @@ pub fn plan(tester: &mut Tester, program: &str, seed: u64, count: u64) {
         let draft = Draft::any(&mut random);
         tester.label = format!("seed {seed} program file {index}");
         let file = varied_bytes(&mut random, &draft);
-        let expected = printed(&entries::plan(&file, usize::MAX, usize::MAX));
+        let expected = printed(&entries::table(&file));
         prints(tester, "program plan", program, &file, &expected);
     }
 }
@@ -52,9 +56,39 @@ pub fn implied_needs(tester: &mut Tester, program: &str, most: u8, seed: u64, co
     }
 }
 
-/// The program that prints every small gate: each line, and that nothing else is written.
+/// The program that prints the state numbers of a file's table: the named files, the samples, and generated ones.
+pub fn states(tester: &mut Tester, program: &str, seed: u64, count: u64) {
+    for (name, file, expected) in paper::states_cases() {
+        tester.label = name.to_string();
+        prints(tester, "program states: named", program, &file, &printed_states(&expected));
+    }
+    for (name, file) in samples() {
+        tester.label = name;
+        shows(tester, "program states: samples", program, &file);
+    }
+    for index in 0..count {
+        let mut random = Random::new(seed ^ 0x7374_6174, index);
+        let draft = Draft::any(&mut random);
+        tester.label = format!("seed {seed} program file {index}");
+        let file = varied_bytes(&mut random, &draft);
+        shows(tester, "program states: generated files", program, &file);
+    }
+}
+
+/// The program that prints the table of 256 numbers.
+pub fn state_table(tester: &mut Tester, program: &str) {
+    let groups = ["program state_table: lines", "program state_table: nothing else"];
+    prints_lines(tester, groups, program, &printed_numbers(&states::entries()));
+}
+
+/// The program that prints every small gate.
 pub fn small_gates(tester: &mut Tester, program: &str) {
-    let nothing_else = "program small_gates: nothing else";
+    let groups = ["program small_gates: lines", "program small_gates: nothing else"];
+    prints_lines(tester, groups, program, &printed_gates(&small::small_gates()));
+}
+
+/// The program, which has no input, prints each of these lines, and nothing else.
+fn prints_lines(tester: &mut Tester, [group, nothing_else]: [&'static str; 2], program: &str, text: &str) {
     let found = match output(program, &[]) {
         Ok(found) => String::from_utf8_lossy(&found).into_owned(),
         Err(error) => {
@@ -62,12 +96,30 @@ pub fn small_gates(tester: &mut Tester, program: &str) {
         }
     };
     let mut lines = found.split_inclusive('\n');
-    for (at, expected) in printed_gates(&small::small_gates()).split_inclusive('\n').enumerate() {
+    for (at, expected) in text.split_inclusive('\n').enumerate() {
         let verdict = same(lines.next().unwrap_or_default(), expected);
-        tester.report.case(Of::Program, "program small_gates: lines", verdict, || format!("line {}", at + 1));
+        tester.report.case(Of::Program, group, verdict, || format!("line {}", at + 1));
     }
     let behind: String = lines.collect();
     tester.report.case(Of::Program, nothing_else, same(&behind, ""), || "behind the last line".to_string());
+}
+
+/// The program prints the reference's state numbers.
+fn shows(tester: &mut Tester, group: &'static str, program: &str, file: &[u8]) {
+    let states = entries::plan(file).map(|plan| plan.states);
+    let kind = states.as_ref().map_or_else(|number| format!("refused {number:>2}"), |_| "numbers".to_string());
+    tester.report.answer("program states", kind);
+    prints(tester, group, program, file, &printed_states(&states));
+}
+
+/// The job files in the repository's folder `samples`, by name.
+fn samples() -> Vec<(String, Vec<u8>)> {
+    let entries = std::fs::read_dir(SAMPLES).into_iter().flatten().flatten().map(|entry| entry.path());
+    let files = entries.filter(|path| path.extension().is_some_and(|extension| extension == "jobs"));
+    let named = |path: PathBuf| Some((path.file_name()?.to_string_lossy().into_owned(), std::fs::read(path).ok()?));
+    let mut samples: Vec<(String, Vec<u8>)> = files.filter_map(named).collect();
+    samples.sort();
+    samples
 }
 
 /// The program prints the needs that the reference lists.

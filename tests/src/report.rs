@@ -10,7 +10,8 @@ const SHOWN: u64 = 10;
 pub enum Of {
     /// A call of the library: its answer and every byte of what was lent.
     Call,
-    /// An answer that a call gave, judged once more: by another search, by another answer, or by what is written out.
+    /// An answer that a call gave, judged once more: by another search, by another answer, by reading it back, or by what is
+    /// written out.
     Answer,
     /// What a program prints.
     Program,

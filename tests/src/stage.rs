@@ -3,16 +3,17 @@
 
 use crate::generate::random::Random;
 use crate::lent::Lent;
-use crate::reference::entries;
+use crate::reference::entries::{self, Plan};
 use crate::reference::reading::LONGEST_FILE;
+use crate::reference::states::{self, STATES_BYTES};
 use crate::reference::table::LONGEST_TABLE;
 
 pub const LONGEST_INPUT: usize = 1 << 17;
 pub const LONGEST_WORK: usize = entries::WORK_BYTES + 8192;
+pub const LONGEST_STATES: usize = 200;
 /// The sizes that the bindings name are those of documents 01 and 02.
-const _: () = assert!(
-    gate::FILE_BYTES == LONGEST_FILE && gate::WORK_BYTES == entries::WORK_BYTES && gate::TABLE_BYTES == LONGEST_TABLE
-);
+const _: () = assert!(gate::FILE_BYTES == LONGEST_FILE && gate::WORK_BYTES == entries::WORK_BYTES);
+const _: () = assert!(gate::TABLE_BYTES == LONGEST_TABLE && gate::STATES_BYTES == STATES_BYTES);
 /// Bytes watched in front of each buffer.
 const MARGIN: usize = 64;
 const REFUSED: u32 = 65_536;
@@ -25,7 +26,14 @@ pub struct Stage {
     file: Lent,
     work: Lent,
     table: Lent,
+    states: Lent,
     noise: Vec<u8>,
+}
+
+/// What the library put into the buffers of a call: the table's bytes, and those of the state numbers, two for each slot.
+pub struct Written {
+    pub table: Vec<u8>,
+    pub states: Vec<u8>,
 }
 
 impl Stage {
@@ -34,20 +42,22 @@ impl Stage {
             file: Lent::new(LONGEST_INPUT),
             work: Lent::new(LONGEST_WORK + MARGIN),
             table: Lent::new(LONGEST_INPUT),
+            states: Lent::new(LONGEST_STATES + MARGIN),
             noise: Random::new(0, 0).bytes(2 * LONGEST_INPUT),
         }
     }
 
-    /// Plans a file with buffers of these lengths; gives what the library answered, the bytes of the table or the refusal,
-    /// beside the verdict.
+    /// Plans a file, of which the reference says this, with buffers of these lengths; gives what the library answered, the
+    /// bytes of the table or the refusal, beside the verdict.
     pub fn plan(
         &mut self,
         random: &mut Random,
         file: &[u8],
+        planned: &Result<Plan, u8>,
         work_len: usize,
         table_len: usize,
     ) -> (Result<Vec<u8>, u8>, Verdict) {
-        let expected = entries::plan(file, work_len, table_len);
+        let expected = entries::plan_in(planned, work_len, table_len);
         let noise = &self.noise[random.below(LONGEST_INPUT)..];
         let (work_noise, table_noise) = (&noise[..work_len + MARGIN], &noise[..table_len + MARGIN]);
         let lent_file = self.file.holding(file);
@@ -56,19 +66,52 @@ impl Stage {
 
         let answer = call_plan(random.percent(50), lent_file, &mut work[MARGIN..], &mut table[MARGIN..]);
 
-        let number = match &expected {
-            Ok(table) => table.len() as u32,
-            Err(number) => REFUSED + *number as u32,
-        };
-        let zeroed = if expected == Err(1) { 0 } else { entries::WORK_BYTES };
-        let written = expected.as_ref().map_or(&[][..], |table| &table[..]);
-        let verdict = same("gate_plan", answer, number)
+        let verdict = same("gate_plan", answer, number(expected))
             .and_then(|()| unchanged("the job file", lent_file, file))
-            .and_then(|()| overwritten("the working buffer", work, work_noise, &ZEROS[..zeroed]))
-            .and_then(|()| overwritten("the table buffer", table, table_noise, written));
+            .and_then(|()| overwritten("the working buffer", work, work_noise, zeroed(expected)))
+            .and_then(|()| overwritten("the table buffer", table, table_noise, table_bytes(expected)));
         let answered = match answer.checked_sub(REFUSED) {
             Some(number) => Err(number as u8),
-            None => Ok(table[MARGIN..].iter().take(answer as usize).copied().collect()),
+            None => Ok(front(&table[MARGIN..], answer as usize)),
+        };
+        (answered, verdict)
+    }
+
+    /// The same of the call that gives state numbers too; the lengths are those of the working buffer, the table buffer and the
+    /// buffer for the numbers.
+    pub fn states(
+        &mut self,
+        random: &mut Random,
+        file: &[u8],
+        planned: &Result<Plan, u8>,
+        lengths: [usize; 3],
+    ) -> (Result<Written, u8>, Verdict) {
+        let expected = entries::states_in(planned, lengths);
+        let numbers = expected.map_or(Vec::new(), |plan| states::bytes(&plan.states));
+        let (noise, other_noise) = self.noise[random.below(LONGEST_INPUT)..].split_at(LONGEST_WORK + MARGIN);
+        let [work_len, table_len, states_len] = lengths.map(|length| length + MARGIN);
+        let (work_noise, table_noise, states_noise) =
+            (&noise[..work_len], &noise[..table_len], &other_noise[..states_len]);
+        let lent_file = self.file.holding(file);
+        let work = self.work.holding(work_noise);
+        let table = self.table.holding(table_noise);
+        let states = self.states.holding(states_noise);
+
+        let c_form = random.percent(50);
+        let answer = call_states(c_form, lent_file, &mut work[MARGIN..], &mut table[MARGIN..], &mut states[MARGIN..]);
+
+        let verdict = same("gate_states", answer, number(expected))
+            .and_then(|()| unchanged("the job file", lent_file, file))
+            .and_then(|()| overwritten("the working buffer", work, work_noise, zeroed(expected)))
+            .and_then(|()| overwritten("the table buffer", table, table_noise, table_bytes(expected)))
+            .and_then(|()| overwritten("the buffer for state numbers", states, states_noise, &numbers));
+        let answered = match answer.checked_sub(REFUSED) {
+            Some(number) => Err(number as u8),
+            None => {
+                let table = front(&table[MARGIN..], answer as usize);
+                let slots = table.get(4).map_or(0, |&slots| slots as usize);
+                Ok(Written { table, states: front(&states[MARGIN..], 2 * slots) })
+            }
         };
         (answered, verdict)
     }
@@ -110,6 +153,28 @@ impl Stage {
     }
 }
 
+/// What a call answers for a plan or a refusal, as one number.
+fn number(expected: Result<&Plan, u8>) -> u32 {
+    expected.map_or_else(|number| REFUSED + number as u32, |plan| plan.table.len() as u32)
+}
+
+/// What stands in the working buffer after a call.
+fn zeroed(expected: Result<&Plan, u8>) -> &'static [u8] {
+    match expected {
+        Err(1) => &[],
+        _ => &ZEROS,
+    }
+}
+
+fn table_bytes(expected: Result<&Plan, u8>) -> &[u8] {
+    expected.map_or(&[], |plan| &plan.table)
+}
+
+/// So many bytes, or all if there are fewer.
+fn front(bytes: &[u8], length: usize) -> Vec<u8> {
+    bytes.iter().take(length).copied().collect()
+}
+
 /// Each call below goes through the C form or through the safe form, whose answer is put back into the number that the
 /// C form gives.
 fn call_plan(c_form: bool, file: &[u8], work: &mut [u8], table: &mut [u8]) -> u32 {
@@ -119,6 +184,30 @@ fn call_plan(c_form: bool, file: &[u8], work: &mut [u8], table: &mut [u8]) -> u3
         return unsafe { gate::c::gate_plan(file.as_ptr(), file.len(), work_at, work.len(), table_at, table.len()) };
     }
     match gate::plan(file, work, table) {
+        Ok(length) => length as u32,
+        Err(refusal) => REFUSED + refusal.0,
+    }
+}
+
+fn call_states(c_form: bool, file: &[u8], work: &mut [u8], table: &mut [u8], states: &mut [u8]) -> u32 {
+    if c_form {
+        let (work_at, table_at, states_at) = (work.as_mut_ptr(), table.as_mut_ptr(), states.as_mut_ptr());
+        let (work_len, table_len, states_len) = (work.len(), table.len(), states.len());
+        // SAFETY: pointers and lengths of slices, the last three of them mutable.
+        return unsafe {
+            gate::c::gate_states(
+                file.as_ptr(),
+                file.len(),
+                work_at,
+                work_len,
+                table_at,
+                table_len,
+                states_at,
+                states_len,
+            )
+        };
+    }
+    match gate::states(file, work, table, states) {
         Ok(length) => length as u32,
         Err(refusal) => REFUSED + refusal.0,
     }

@@ -4,9 +4,8 @@
 use gate_tests::generate::drafts::Draft;
 use gate_tests::generate::random::Random;
 use gate_tests::generate::{damage, tables};
-use gate_tests::reference::entries::{self, WORK_BYTES};
+use gate_tests::reference::entries;
 use gate_tests::reference::reading::{read, JobFile};
-use gate_tests::reference::table::LONGEST_TABLE;
 
 const COUNT: u64 = 100;
 /// The longest input that `tests/fuzz` allows.
@@ -44,7 +43,7 @@ fn seed(random: &mut Random, kind: &str) -> Vec<u8> {
             [&length[..], &file, &table.map_or(Vec::new(), |table| table.bytes())].concat()
         }
         "lookup" => {
-            let table = entries::plan(&file, WORK_BYTES, LONGEST_TABLE).unwrap_or_default();
+            let table = entries::table(&file).unwrap_or_default();
             [&[random.below(4) as u8, random.below(4) as u8], &table[..]].concat()
         }
         _ => [&[random.pick(&[1, 9, 17, 25]), random.byte()], &random.bytes(3)[..], &file].concat(),

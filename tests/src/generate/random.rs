@@ -10,6 +10,11 @@ impl Random {
         random
     }
 
+    /// Another stream, which leaves this one where it is.
+    pub fn beside(&self) -> Random {
+        Random::new(!self.0, 0)
+    }
+
     pub fn word(&mut self) -> u64 {
         self.0 = self.0.wrapping_add(0x9e37_79b9_7f4a_7c15);
         let mut word = self.0;

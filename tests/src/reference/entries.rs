@@ -1,26 +1,53 @@
-//! What planner, check, lookup and name answer. A refusal is the number of its question.
+//! What planner, state numbers, check, lookup and name answer. A refusal is the number of its question.
 
 use super::boards::place;
 use super::needs::Graph;
 use super::reading::{read, JobFile, MOST_BOARDS, MOST_JOBS};
 use super::search;
+use super::states::{state_numbers, STATES_BYTES};
 use super::table::{centimetres, Row, Table, LONGEST_TABLE};
 use std::ops::Range;
 
 pub const WORK_BYTES: usize = 65_536;
 
-/// The table's bytes, for buffers of these lengths: questions 1 to 13, and 21.
-pub fn plan(file: &[u8], work_len: usize, table_len: usize) -> Result<Vec<u8>, u8> {
+/// What the planner finds for a file: the table's bytes, and the state number of each of its slots.
+pub struct Plan {
+    pub table: Vec<u8>,
+    pub states: Vec<u16>,
+}
+
+/// What the planner answers where the buffers are long enough: questions 2 to 13, and 21.
+pub fn plan(file: &[u8]) -> Result<Plan, u8> {
+    let file = read(file)?;
+    let graph = sound_graph(&file)?;
+    let limit = file.limit as i32;
+    if graph.width(limit) > MOST_BOARDS as usize {
+        return Err(12);
+    }
+    let starts = search::best(&graph, limit, file.most_boards()).ok_or(13)?;
+    let table = table_of(&file, &starts, &place(&graph, &starts)).bytes();
+    Ok(Plan { table, states: state_numbers(&graph, limit, &starts) })
+}
+
+/// The table alone.
+pub fn table(file: &[u8]) -> Result<Vec<u8>, u8> {
+    plan(file).map(|plan| plan.table)
+}
+
+/// The planner's answer for buffers of these lengths: question 1, then what it answers where they are long enough.
+pub fn plan_in(answer: &Result<Plan, u8>, work_len: usize, table_len: usize) -> Result<&Plan, u8> {
     if work_len < WORK_BYTES || table_len < LONGEST_TABLE {
         return Err(1);
     }
-    let file = read(file)?;
-    let graph = sound_graph(&file)?;
-    if graph.width(file.limit as i32) > MOST_BOARDS as usize {
-        return Err(12);
+    answer.as_ref().map_err(|&number| number)
+}
+
+/// The same of the call that gives state numbers too, which has one buffer more.
+pub fn states_in(answer: &Result<Plan, u8>, [work_len, table_len, states_len]: [usize; 3]) -> Result<&Plan, u8> {
+    if states_len < STATES_BYTES {
+        return Err(1);
     }
-    let starts = search::best(&graph, file.limit as i32, file.most_boards()).ok_or(13)?;
-    Ok(table_of(&file, &starts, &place(&graph, &starts)).bytes())
+    plan_in(answer, work_len, table_len)
 }
 
 /// The graph of the needs, unless it has a circle: question 11.

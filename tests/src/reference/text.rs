@@ -28,6 +28,19 @@ pub fn printed_needs(implied: &Result<Vec<(usize, usize)>, u8>) -> String {
     }
 }
 
+/// The text for the state numbers of a planned file, one a line, or for the refusal.
+pub fn printed_states(states: &Result<Vec<u16>, u8>) -> String {
+    match states {
+        Ok(numbers) => printed_numbers(numbers),
+        Err(number) => refusal(*number),
+    }
+}
+
+/// The text for numbers, one a line.
+pub fn printed_numbers(numbers: &[u16]) -> String {
+    numbers.iter().map(|number| format!("{number}\n")).collect()
+}
+
 /// The text for small gates: jobs, number and fewest slots, a line each.
 pub fn printed_gates(gates: &[SmallGate]) -> String {
     gates.iter().map(|gate| format!("{} {} {}\n", gate.jobs, gate.number, gate.fewest_slots)).collect()
