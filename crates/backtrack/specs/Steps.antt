@@ -30,8 +30,8 @@ use Rattle.layout.specs.Layout.{tablesIn, marksIn}
 use Rattle.backtrack.specs.declared.Choice.{Choice}
 use Rattle.backtrack.specs.Entries.{slotsIn, capIn}
 use Rattle.backtrack.specs.Choosing.{rowOf, setsOf}
-use Rattle.backtrack.specs.Listing.{rowFrom, row-length}
-use Rattle.backtrack.specs.Numbers.{digitsOf, endBelow, chosen-low, chosen-many, tried-end}
+use Rattle.placesets.specs.Listing.{rowFrom, row-length}
+use Rattle.placesets.specs.Numbers.{digitsOf, endBelow, chosen-low, chosen-many, tried-end}
 use Rattle.backtrack.specs.Search.{InSlot, Takes, Told, written, mustAt, exploredIn, after, attempt, placesTry, numbered, choiceTries}
 
 -- ---- answers

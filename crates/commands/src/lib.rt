@@ -201,7 +201,9 @@ pub fn small_gates() -> bool
     printing::print_gates(&list)
 }
 
-// Prints the table of base-three numbers, one entry a line.
-pub fn state_table() {
-    printing::print_entries();
+// Prints the table of base-three numbers, one entry a line; gives how many.
+pub fn state_table() -> usize
+    ensures { λ r. ⌜ r ≡ 256 ⌝ }
+{
+    printing::print_entries()
 }

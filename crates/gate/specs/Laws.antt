@@ -19,7 +19,8 @@ use Rattle.planner.specs.declared.Planned.{Planned}
 use Rattle.planner.specs.declared.Planned.the-variants as planned
 use Rattle.table.specs.Entries.{verdictOf, foundOf, placeOf}
 use Rattle.table.specs.Names.{name-lies}
-use Rattle.gate.specs.Numbers.{planNumber, plannedNumber, plannedSize, answerNumber, verdictNumber, foundNumber, refusalNumber, placeNumber, lookupNumber, nameNumber}
+use Rattle.gate.specs.Numbers.{plannedNumber, plannedSize, answerNumber, verdictNumber, foundNumber, refusalNumber, placeNumber}
+use Rattle.gate.specs.Numbers.{planNumber, lookupNumber, nameNumber}
 
 -- the number and the size in the planner's answer are those of the rules' outcome
 pub planned-number : (p : Planned) (work table : List ℕ) (o : Outcome) → outcomeOf p work table ≡ o → (plannedNumber p ≡ o .number) × (plannedSize p ≡ o .size)
@@ -36,6 +37,10 @@ answer-number (planned.Refused q) work table o e has-bytes = sym (ap planNumber 
   where
     no-table : q ≡ 0 → ⊥
     no-table z = omega (arith, ap (λ (x : Outcome). x .size) e, has-bytes (sym (ap (λ (x : Outcome). x .number) e) ∙ z))
+
+-- a table is no longer than the outcome's
+pub size-few : (p : Planned) (work table : List ℕ) (o : Outcome) → outcomeOf p work table ≡ o → o .size ≤ tableSize → plannedSize p ≤ tableSize
+size-few p work table o e few = omega (arith, planned-number p work table o e .1)
 
 -- both buffers are the outcome's
 pub buffers-left : (p : Planned) (work table : List ℕ) (o : Outcome) → outcomeOf p work table ≡ o → (work ≡ o .work) × (table ≡ o .table)

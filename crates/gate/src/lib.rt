@@ -19,7 +19,7 @@ ghost use Rattle.rules.specs.States.{planStates};
 ghost use Rattle.gate.specs.Numbers.{plannedSize, answerNumber, planNumber, lookupNumber, nameNumber};
 
 // An answer of the planner as one number: the length of the table; or 65536 and the number of the question that said no.
-fn number_of(p: Planned) -> u32
+fn answer_number(p: Planned) -> u32
     requires { ⌜ plannedSize p ≤ tableSize ⌝ }
     ensures { λ r. ⌜ r ≡ answerNumber p ⌝ }
 {
@@ -36,7 +36,7 @@ pub extern "C" fn gate_plan(file: &[u8], work: &mut [u8], table: &mut [u8]) -> u
     ensures { λ _. ⌜ now (work .exit) ≡ Answers·plan (now (file .entry)) (now (work .entry)) (now (table .entry)) .work ⌝ }
     ensures { λ _. ⌜ now (table .exit) ≡ Answers·plan (now (file .entry)) (now (work .entry)) (now (table .entry)) .table ⌝ }
 {
-    number_of(plan(file, work, table))
+    answer_number(plan(file, work, table))
 }
 
 // As gate_plan, and for a table the state number of each slot, two bytes each, low byte first; 65536 and 1 where there are fewer than 128 bytes for
@@ -53,7 +53,7 @@ pub extern "C" fn gate_states(
     ensures { λ _. ⌜ now (table .exit) ≡ planStates (now (file .entry)) (now (work .entry)) (now (table .entry)) (now (states .entry)) .outcome .table ⌝ }
     ensures { λ _. ⌜ now (states .exit) ≡ planStates (now (file .entry)) (now (work .entry)) (now (table .entry)) (now (states .entry)) .report ⌝ }
 {
-    number_of(state_numbers(file, work, table, states))
+    answer_number(state_numbers(file, work, table, states))
 }
 
 // 0 where the table passes; else the number of the question that said no.

@@ -7,16 +7,17 @@ use Prim.Native.Nat.{ℕ, zero, suc, _+_, _*_, _^_, _≤_, _<_}
 use native.Mathlib.Nat.{pow-suc, pow-le-pow-right}
 use native.Mathlib.Omega.{arith}
 use lib.ListN.{length, drop, length-map, List·getD-append}
+use lib.IntN.{ℤ, pos, _-ℤ_}
 use lib.Seq.{drop-append-seam}
 use lib.Dec.{T, leb, ltb, eqb}
 use Rattle.rules.specs.Sizes.{maxWidth, workSize, tableSize, statesSize}
 use Rattle.rules.specs.Basics.{choose, at, filter, range, joined, count}
-use Rattle.rules.specs.Numbers.{Bytes, word, low, high}
+use Rattle.rules.specs.Numbers.{Bytes, word, wordBytes}
 use Rattle.rules.specs.Fields.{got, after}
-use Rattle.rules.specs.Needs.{Need}
+use Rattle.rules.specs.Needs.{Need, NeedsIn, Circle}
 use Rattle.rules.specs.JobFile.{JobFile, mostBoards, readFile}
 use Rattle.rules.specs.Program.{slots}
-use Rattle.rules.specs.Windows.{release, tail, width}
+use Rattle.rules.specs.Windows.{Formula1, Formula2, release, tail, Holds, width}
 use Rattle.rules.specs.Table.{Table, starts}
 use Rattle.rules.specs.Answers.{Outcome, tableOf, planTable, plan}
 use Rattle.rules.specs.Reports.{Reported, reportOn, reported, planReport}
@@ -27,6 +28,8 @@ use Rattle.laws.specs.Counting.{range-below, length-range, most-ge}
 use Rattle.laws.specs.Writing.{length-joined}
 use Rattle.laws.specs.Numbers.{word-split}
 use Rattle.laws.specs.Fields.{after-got}
+use Rattle.laws.specs.Releases.{release-only}
+use Rattle.laws.specs.Deadlines.{holds-is, deadline-only}
 use Rattle.laws.specs.Width.{window, window-is, file-window, width-window}
 use Rattle.laws.specs.JobFile.{Readable, readable}
 use Rattle.laws.specs.Refusals.{PlanNumber}
@@ -59,6 +62,23 @@ module _ (n : ℕ) (needs : List Need) (L s : ℕ) where
   unfolding count
   held-few h =
       rw (held-window, width-window n needs L) (most-ge (λ k. count (window (release n needs) (tail n needs) L k) n) L s h)
+
+-- by the formulas as printed: of the dates that satisfy (1) and (2), the windows that hold the slot
+pub held-formulas : (n : ℕ) (needs : List Need) (L s : ℕ) → NeedsIn n needs → ¬ (Circle needs)
+    → (r : ℕ → ℕ) → ((i : ℕ) → i < n → Formula1 needs r i) → (d : ℕ → ℤ) → ((i : ℕ) → i < n → Formula2 needs L d i)
+    → (i : ℕ) → List·Memᴰ i (heldJobs n needs L s) ↔ ((i < n) × Holds (pos (r i)) (d i) s)
+held-formulas n needs L s needs-in free r hr d hd i = (
+  λ m. let w = held-is n needs L s i .0 m in
+      (w .0, rw (is-r (w .0), is-d (w .0)) (holds-is L (release n needs i) (tail n needs i) s .1 (w .1, w .2))),
+  λ h. let w = holds-is L (release n needs i) (tail n needs i) s .0 (rw (← (is-r (h .0)), ← (is-d (h .0))) (h .1)) in
+      held-is n needs L s i .1 (h .0, w .0, w .1),
+)
+  where
+    is-r : i < n → r i ≡ release n needs i
+    is-r l = release-only n needs needs-in free r hr i l
+
+    is-d : i < n → d i ≡ pos L -ℤ pos (tail n needs i)
+    is-d l = deadline-only n needs needs-in free L d hd i l
 
 -- ---- the digits
 
@@ -137,11 +157,8 @@ same-state n needs L t u s e =
 
 -- ---- the bytes
 
-abbrev two : ℕ → List ℕ
-two w = low w ∷ high w ∷ []
-
 -- the numbers stand one behind the other, two bytes each
-two-at : (ws : List ℕ) (s : ℕ) → s < length ws → at ws s < 65536 → word (at (joined two ws) (2 * s)) (at (joined two ws) (2 * s + 1)) ≡ at ws s
+two-at : (ws : List ℕ) (s : ℕ) → s < length ws → at ws s < 65536 → word (at (joined wordBytes ws) (2 * s)) (at (joined wordBytes ws) (2 * s + 1)) ≡ at ws s
 unfolding joined
 two-at [] s h small = absurd (omega arith)
 two-at (w ∷ ws) zero h small = word-split w small .0
@@ -154,9 +171,9 @@ module _ (f : JobFile) (T : Table) where
   unfolding stateNumbers
   numbers-count = length-map (range (T .slots) 0) _ ∙ length-range (T .slots) 0
 
-  pub bytes-count : length (stateBytes f T) ≡ 2 * T .slots
+  bytes-count : length (stateBytes f T) ≡ 2 * T .slots
   unfolding stateBytes
-  bytes-count = length-joined two 2 (λ w. refl) (stateNumbers f T) ∙ ap (2 *_) numbers-count
+  bytes-count = length-joined wordBytes 2 (λ w. refl) (stateNumbers f T) ∙ ap (2 *_) numbers-count
 
   -- the number of slot s, where it fits two bytes
   shown-at : (states : List ℕ) (s : ℕ) → s < T .slots → (w : ℕ) → w ≡ stateNumber (length (f .jobs)) (f .needs) (f .limit) (starts T) s → w < 65536

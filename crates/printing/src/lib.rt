@@ -1,4 +1,5 @@
-// The text that the programs print: a planned table, a table for people, pairs of job numbers, the lines of the small gates, state numbers, a refusal.
+// The text that the programs print: a planned table, a table for people, pairs of job numbers, the lines of the small gates, state numbers and the entries of their
+// table, a refusal.
 //
 // What is printed is tested, each program against its file `stdout`, and not proved: a contract cannot speak of what goes out. What a function
 // gives back is proved.
@@ -105,14 +106,16 @@ pub fn print_states(p: Planned, table: &[u8], states: &[u8]) -> u8
 {
     match p {
         Planned::Table(_) => {
-            numbers::print(states, numbers::slots_in(table));
+            numbers::print(numbers::first(states, numbers::slots_in(table)));
             0
         }
         Planned::Refused(number) => print_refused(number),
     }
 }
 
-// Prints the entries of the table of base-three numbers.
-pub fn print_entries() {
-    numbers::print_entries();
+// Prints the entries of the table of base-three numbers; gives how many.
+pub fn print_entries() -> usize
+    ensures { λ r. ⌜ r ≡ 256 ⌝ }
+{
+    numbers::print_entries()
 }

@@ -25,6 +25,10 @@ low w = w % 256
 unfoldable pub high : ℕ → ℕ
 high w = w / 256
 
+-- both, "the low byte first"
+abbrev pub wordBytes : ℕ → List ℕ
+wordBytes w = low w ∷ high w ∷ []
+
 -- "signed ones in two's complement": the signed number that a two-byte number stands for, and back
 unfoldable pub signed : ℕ → ℤ
 signed w = choose (ltb w 32768) (pos w) (negsuc (65535 - w))

@@ -23,8 +23,8 @@ unfoldable pub reported : Answer (List ℕ) → List ℕ → List ℕ
 reported (refused q) buffer = buffer
 reported (got bs) buffer = bs ++ drop (length bs) buffer
 
--- "A call with the planner's input plans the file, leaves the buffers as the planner does, and gives its refusal or" the report. Has the report's buffer so
--- much room? (1, and nothing is touched); then the planner's questions
+-- "A call with the planner's input plans the file, leaves the buffers as the planner does, and gives its refusal or" the report (document 02, request 2). Has
+-- the report's buffer so much room? (1, and nothing is touched); then the planner's questions
 unfoldable pub planReport : ℕ → (JobFile → Table → List ℕ) → List ℕ → List ℕ → List ℕ → List ℕ → Reported
 planReport room bytes file work table buffer =
     let o = plan file work table in

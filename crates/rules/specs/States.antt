@@ -7,7 +7,7 @@ use lib.Dec.{ltb}
 use lib.IntN.{pos, _-ℤ_}
 use Rattle.rules.specs.Sizes.{statesSize}
 use Rattle.rules.specs.Basics.{choose, at, filter, range, joined}
-use Rattle.rules.specs.Numbers.{low, high}
+use Rattle.rules.specs.Numbers.{wordBytes}
 use Rattle.rules.specs.Needs.{Need}
 use Rattle.rules.specs.JobFile.{JobFile}
 use Rattle.rules.specs.Windows.{releases, swap, holdsb}
@@ -42,9 +42,9 @@ stateNumber n needs L t s = baseThree (stateDigits n needs L t s)
 unfoldable pub stateNumbers : JobFile → Table → List ℕ
 stateNumbers f T = map (stateNumber (length (f .jobs)) (f .needs) (f .limit) (starts T)) (range (T .slots) 0)
 
--- as bytes, two for each slot, "two-byte numbers have the low byte first"
+-- as bytes, two for each slot
 unfoldable pub stateBytes : JobFile → Table → List ℕ
-stateBytes f T = joined (λ w. low w ∷ high w ∷ []) (stateNumbers f T)
+stateBytes f T = joined wordBytes (stateNumbers f T)
 
 -- the call: job file, both buffers of the planner, and the buffer for the numbers
 unfoldable pub planStates : List ℕ → List ℕ → List ℕ → List ℕ → Reported

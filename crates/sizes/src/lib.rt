@@ -33,5 +33,5 @@ pub const DEADLINES: usize = MAX_SLOTS + 1;
 // The sets of places: each is a byte.
 pub const PLACE_SETS: usize = 256;
 
-// The bytes of the state numbers of a table: two for each slot.
+// The bytes of the state numbers of the longest table: two for each slot.
 pub const STATE_BYTES: usize = 2 * MAX_SLOTS;

@@ -21,7 +21,7 @@ use Rattle.jobset.specs.Tests.{present}
 use Rattle.places.specs.Fit.{members-distinct}
 use Rattle.places.specs.Rows.{byNumber, Sorted, in-row, row-sorted}
 use Rattle.layout.specs.Layout.{tablesIn}
-use Rattle.backtrack.specs.Listing.{Listable}
+use Rattle.placesets.specs.Listing.{Listable}
 use Rattle.slotboards.specs.Placing.{Filling, filling, allBoards, takes, giverAt, inherit, leave, takeLowest, each, inherited, othersOf}
 use Rattle.slotboards.specs.Placing.{placeOthers, placeSlot, lastOf, Plan, Below64, Fits}
 use Rattle.slotboards.specs.Left.{all-left, left-low, lowest-of, some-left}

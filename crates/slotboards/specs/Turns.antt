@@ -16,7 +16,7 @@ use Rattle.jobset.specs.Members.{Turn}
 use Rattle.places.specs.Tables.{Tables}
 use Rattle.places.specs.Slot.{nearAt}
 use Rattle.layout.specs.Layout.{tablesIn}
-use Rattle.backtrack.specs.Listing.{rowFrom}
+use Rattle.placesets.specs.Listing.{rowFrom}
 use Rattle.slotboards.specs.Placing.{Filling, takes, giverAt, inherit, leave, each, takeRow, othersRow, placeOthers, placeSlot, placeSlots, lastOf}
 use Rattle.slotboards.specs.Placing.{Below64, HereIn, LastIn, Fits}
 use Rattle.slotboards.specs.Left.{lowest-of}

@@ -2,14 +2,13 @@
 //
 // The jobs of a slot are a set of its places (crate layout), and the jobs of all slots are the path. Jobs are counted from 0, boards from 1; in a
 // set of boards, board c is the member c.
-use backtrack::by_number;
 use fields::greater;
 use fields::wide;
 use jobset::Set;
-use layout::PREV;
 use layout::TABLES;
 use layout::job_at;
-use layout::set_at;
+use placesets::by_number;
+use placesets::givers_at;
 use sizes::MAX_JOBS;
 use sizes::MAX_SLOTS;
 use sizes::PLACES;
@@ -21,7 +20,7 @@ ghost use Rattle.rules.specs.Basics.{at, most};
 ghost use Rattle.layout.specs.Layout.{tablesIn};
 ghost use Rattle.places.specs.Slot.{nearAt};
 ghost use Rattle.jobset.specs.Sets.{setAt};
-ghost use Rattle.backtrack.specs.Listing.{rowFrom, Listable};
+ghost use Rattle.placesets.specs.Listing.{rowFrom, Listable};
 ghost use Rattle.slotboards.specs.Placing.{filling, inherit, leave, inherited, othersOf, takeRow, othersRow, placeOthers, placeSlots, blank};
 ghost use Rattle.slotboards.specs.Placing.{Below64, HereIn, LastIn, Fits, Plan, Boarded};
 ghost use Rattle.slotboards.specs.Rows.{PathIn, pathOf, blankColumns, withStart, recordOf, RowsSeated, RowsBoarded};
@@ -55,7 +54,7 @@ fn near_at(tables: &[u16; TABLES], slot: usize, last: Set, p: usize) -> Set
     requires { ⌜ (slot < maxLimit) × (p < maxWidth) ⌝ }
     ensures { λ r. ⌜ r ≡ nearAt (tablesIn (now (tables .entry))) slot last p ⌝ }
 {
-    let givers = set_at(tables, PREV + PLACES * slot + p);
+    let givers = givers_at(tables, slot, p);
     givers.intersection(last)
 }
 

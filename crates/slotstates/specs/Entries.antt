@@ -19,7 +19,8 @@ use Rattle.jobset.specs.Membership.{member-empty, with-same, with-other}
 use Rattle.jobset.specs.Tests.{present}
 use Rattle.threes.specs.Threes.{entry, numberOf}
 use Rattle.slotstates.specs.declared.Ranks.{Ranks}
-use Rattle.slotstates.specs.Ranks.{noRanks, ranked, rankedAll, ranked-later, ranked-earlier, ranked-now, ranked-count, none-counted, none-number, number-all, counted-fit}
+use Rattle.slotstates.specs.Ranks.{noRanks, ranked, rankedAll, ranked-later, ranked-earlier, ranked-now, ranked-count}
+use Rattle.slotstates.specs.Ranks.{none-counted, none-number, number-all, counted-fit}
 
 -- ---- one job more
 
@@ -60,7 +61,8 @@ module _ (s t : ℕ) (z : Ranks) where
       go : Dec (s < t) → Dec (t < s) → Adds (z .running) (after .running) (z .count) (t ≡ s)
       go (yes l) d = adds-no (z .running) (after .running) (z .count) (sym (ap (λ (r : Ranks). r .running) (ranked-later s t z l))) (λ h. omega arith)
       go (no l) (yes e) =
-          adds-no (z .running) (after .running) (z .count) (sym (ap (λ (r : Ranks). r .running) (ranked-earlier s t z (omega arith) _ refl e))) (λ h. omega arith)
+          adds-no (z .running) (after .running) (z .count) (sym (ap (λ (r : Ranks). r .running) (ranked-earlier s t z (omega arith) _ refl e)))
+          (λ h. omega arith)
       go (no l) (no e) =
           adds-yes (z .running) (after .running) (z .count) (sym (ap (λ (r : Ranks). r .running) (ranked-now s t z (omega arith) _ refl (omega arith) _ refl)))
           (omega arith)

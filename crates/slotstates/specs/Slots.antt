@@ -1,10 +1,10 @@
 -- The numbers of all slots, as bytes. Assumes nothing.
 use mathlib.Core.Path.{_≡_, refl, ap, _∙_}
-use mathlib.Core.List.{List, [], _∷_}
+use mathlib.Core.List.{List}
 use Prim.Native.Nat.{ℕ, _*_}
 use lib.ListN.{length}
 use Rattle.rules.specs.Basics.{range, joined}
-use Rattle.rules.specs.Numbers.{low, high}
+use Rattle.rules.specs.Numbers.{wordBytes}
 use Rattle.laws.specs.Counting.{length-range}
 use Rattle.laws.specs.Writing.{length-joined}
 use Rattle.threes.specs.Threes.{numberOf}
@@ -12,7 +12,7 @@ use Rattle.slotstates.specs.Ranks.{Times, ranksIn}
 
 -- the number of slot s: its two bytes
 unfoldable pub slotBytes : Times → ℕ → List ℕ
-slotBytes z s = let w = numberOf (ranksIn z s .begun) (ranksIn z s .running) in low w ∷ high w ∷ []
+slotBytes z s = wordBytes (numberOf (ranksIn z s .begun) (ranksIn z s .running))
 
 -- the bytes of so many slots
 unfoldable pub slotsBytes : Times → ℕ → List ℕ

@@ -9,12 +9,11 @@ use jobset::Set;
 use sizes::MAX_JOBS;
 ghost use mathlib.Core.Path.{_≡_};
 ghost use mathlib.Core.Bool.{_&&_};
-ghost use mathlib.Core.List.{[], _∷_};
 ghost use Prim.Native.Nat.{ℕ, _+_, _*_, _≤_, _<_};
 ghost use lib.ListN.{length};
 ghost use lib.Dec.{leb};
 ghost use Rattle.rules.specs.Sizes.{maxJobs, maxLimit, maxWidth};
-ghost use Rattle.rules.specs.Numbers.{low, high};
+ghost use Rattle.rules.specs.Numbers.{wordBytes};
 ghost use Rattle.laws.specs.Writing.{put};
 ghost use Rattle.threes.specs.Threes.{numberOf};
 ghost use Rattle.slotstates.specs.Ranks.{ranked, times, ranksIn, Narrow, RanksFit};
@@ -67,7 +66,7 @@ fn ranked(z: Ranks, start: usize, slot: usize) -> Ranks
     }
 }
 
-// The ranks of a slot, of so many jobs with these starts, releases and tails.
+// The ranks of a slot, of so many jobs with these starts, releases and tails, in rising number: `left` of them are still to come.
 fn ranks_in(
     starts: &[u8; MAX_JOBS],
     release: &[u16; MAX_JOBS],
@@ -108,7 +107,7 @@ fn number_of(z: Ranks) -> u16
 // A two-byte number, low byte first.
 fn put_word(states: &mut [u8], at: usize, w: u16)
     requires { ⌜ at + 2 ≤ length (now states) ⌝ }
-    ensures { λ _. ⌜ now (states .exit) ≡ put at (low w ∷ high w ∷ []) (now (states .entry)) ⌝ }
+    ensures { λ _. ⌜ now (states .exit) ≡ put at (wordBytes w) (now (states .entry)) ⌝ }
 {
     states[at] = (w % 256) as u8;
     states[at + 1] = (w / 256) as u8;

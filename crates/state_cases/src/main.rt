@@ -1,109 +1,33 @@
-// State numbers by the form for C (document 02, request 11), of tables of document 01's cases: a line for each job file with the number of each slot, or the
-// refusal, and whether the buffers are as the answer leaves them. All of them are full of noise before each call.
-use fields::wide;
-use fields::word_at;
+// State numbers (document 02, request 11) of tables of document 01's cases: for each job file a line that says what it is, then the number of each slot, or the
+// refusal.
 use libc::STDOUT_FILENO;
+use sizes::STATE_BYTES;
 use sizes::TABLE_BYTES;
 ghost use Prim.Native.Nat.{_≤_};
 ghost use lib.ListN.{length};
 
-const NOISE: u8 = 170;
-
-// The form for C gives a refusal as this and the number of the question.
-const REFUSED: u32 = 65536;
-
-// Room for the numbers, and two bytes behind them.
-const ROOM: usize = 130;
-
-fn print(text: &[u8]) {
-    io::write_all(STDOUT_FILENO, text);
-}
-
-fn print_number(n: u32) {
-    print(b" ");
-    io::print_decimal(STDOUT_FILENO, n as u64);
-}
-
-// Has every byte from this place on this value?
-fn filled(bytes: &[u8], from: usize, value: u8) -> bool {
-    let mut at = from;
-    while at < bytes.len() {
-        if bytes[at] != value {
-            return false;
-        }
-        at += 1;
-    }
-    true
-}
-
-// The numbers of so many slots, two bytes each, low byte first.
-fn print_states(states: &[u8], slots: usize) {
-    let mut slot = 0;
-    while slot < slots {
-        if states.len() / 2 <= slot {
-            return;
-        }
-        print_number(word_at(states, 2 * slot) as u32);
-        slot += 1;
-    }
-}
-
-// The refusal, or the numbers of a table with so many slots.
-fn print_answer(number: u32, states: &[u8], slots: u8) {
-    if number < REFUSED {
-        print_states(states, wide(slots));
-    } else {
-        print(b" refused");
-        print_number(number - REFUSED);
-    }
-}
-
-// The value that the answer leaves in the working buffer.
-fn left(number: u32) -> u8 {
-    if number == REFUSED + 1 { NOISE } else { 0 }
-}
-
-// How many bytes at the front the answer may change, of so many that a table asks for.
-fn changed(number: u32, size: usize) -> usize {
-    if number < REFUSED { size } else { 0 }
-}
-
-// Whether the bytes behind what is written, and the working buffer, are as the answer leaves them.
-fn print_buffers(number: u32, work: &[u8], table: &[u8], states: &[u8], slots: u8) {
-    let size = changed(number, number as usize);
-    let shown = changed(number, 2 * wide(slots));
-    if filled(work, 0, left(number)) && filled(table, size, NOISE) && filled(states, shown, NOISE) {
-        print(b", buffers ok\n");
-    } else {
-        print(b", buffers WRONG\n");
-    }
-}
-
-// The answer, with so many bytes for the numbers.
-fn answer(file: &[u8], work: &mut [u8], table: &mut [u8], states: &mut [u8], room: usize) -> u32
+// The numbers of a job file, with so many bytes for them; or the refusal.
+fn print_numbers(file: &[u8], work: &mut [u8], table: &mut [u8], states: &mut [u8], room: usize)
     requires { ⌜ room ≤ length (now states) ⌝ }
 {
-    gate::gate_states(file, work, table, &mut states[..room])
+    let p = gate::state_numbers(file, work, table, &mut states[..room]);
+    printing::print_states(p, table, states);
 }
 
-// The line of a job file, with so many bytes for the numbers.
+// The lines of a job file, with so many bytes for the numbers.
 fn states(label: &[u8], file: &[u8], room: usize)
-    requires { ⌜ room ≤ 130 ⌝ }
+    requires { ⌜ room ≤ 128 ⌝ }
 {
-    let mut work = [NOISE; 65536];
-    let mut table = [NOISE; TABLE_BYTES];
-    let mut states = [NOISE; ROOM];
-    let number = answer(file, &mut work, &mut table, &mut states, room);
-    let slots = table[4];
-    print(label);
-    print(b":");
-    print_answer(number, &states, slots);
-    print_buffers(number, &work, &table, &states, slots);
+    let mut work = [0; 65536];
+    let mut table = [0; TABLE_BYTES];
+    let mut states = [0; STATE_BYTES];
+    io::write_all(STDOUT_FILENO, label);
+    print_numbers(file, &mut work, &mut table, &mut states, room);
 }
 
 // So many chains side by side, of so many jobs in all.
 fn chains(label: &[u8], limit: u8, chains: u16, jobs: u16, room: usize)
-    requires { ⌜ (chains ≤ 8) × (jobs ≤ 401) × (room ≤ 130) ⌝ }
+    requires { ⌜ (chains ≤ 8) × (jobs ≤ 401) × (room ≤ 128) ⌝ }
 {
     let mut file = [0; TABLE_BYTES];
     let from = drafts::put_jobs(&mut file, limit, jobs as usize);
@@ -117,7 +41,11 @@ fn two_givers() {
     let from = drafts::put_jobs(&mut file, 3, 3);
     let first = drafts::put_need(&mut file, from, 1, 3);
     let size = drafts::put_need(&mut file, first, 2, 3);
-    states(b"needs 1-3 2-3, limit 3", drafts::front(&file, size), ROOM);
+    states(
+        b"needs 1-3 2-3, limit 3\n",
+        drafts::front(&file, size),
+        STATE_BYTES,
+    );
 }
 
 // Figure 1: needs 1-3, 1-4, 1-5, 2-5, 3-6, 4-6, 5-7, 5-8.
@@ -132,20 +60,37 @@ fn figure1(label: &[u8], limit: u8) {
     size = drafts::put_need(&mut file, size, 4, 6);
     size = drafts::put_need(&mut file, size, 5, 7);
     size = drafts::put_need(&mut file, size, 5, 8);
-    states(label, drafts::front(&file, size), ROOM);
+    states(label, drafts::front(&file, size), STATE_BYTES);
 }
 
 fn main() {
     two_givers();
-    figure1(b"figure 1, limit 6", 6);
-    figure1(b"figure 1, limit 5", 5);
-    figure1(b"figure 1, limit 4", 4);
-    chains(b"eight jobs, limit 1", 1, 8, 8, ROOM);
-    chains(b"nine jobs in eight chains, limit 1", 1, 8, 9, ROOM);
-    chains(b"chain of nine, limit 16", 16, 1, 9, ROOM);
-    chains(b"chain of nine, limit 17", 17, 1, 9, ROOM);
-    chains(b"chain of 64, limit 64, 128 bytes", 64, 1, 64, 128);
-    chains(b"chain of 64, limit 64, 127 bytes", 64, 1, 64, 127);
-    chains(b"400 jobs in eight chains, limit 50", 50, 8, 400, ROOM);
-    chains(b"401 jobs in eight chains, limit 64", 64, 8, 401, ROOM);
+    figure1(b"figure 1, limit 6\n", 6);
+    figure1(b"figure 1, limit 5\n", 5);
+    figure1(b"figure 1, limit 4\n", 4);
+    chains(b"eight jobs, limit 1\n", 1, 8, 8, STATE_BYTES);
+    chains(b"chain of nine, limit 16\n", 16, 1, 9, STATE_BYTES);
+    chains(b"chain of nine, limit 17\n", 17, 1, 9, STATE_BYTES);
+    chains(b"chain of 64, limit 64\n", 64, 1, 64, STATE_BYTES);
+    chains(
+        b"chain of 64, limit 64, 127 bytes\n",
+        64,
+        1,
+        64,
+        STATE_BYTES - 1,
+    );
+    chains(
+        b"400 jobs in eight chains, limit 50\n",
+        50,
+        8,
+        400,
+        STATE_BYTES,
+    );
+    chains(
+        b"401 jobs in eight chains, limit 64\n",
+        64,
+        8,
+        401,
+        STATE_BYTES,
+    );
 }

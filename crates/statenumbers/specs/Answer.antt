@@ -1,21 +1,21 @@
 -- The job file and its planned table, read once more, and the answer of the call. Assumes nothing.
 use mathlib.Core.Path.{_≡_, refl, sym, ap, ap₂, subst, _∙_}
 use mathlib.Core.Bool.{Bool, true, false}
-use mathlib.Core.List.{List, [], _∷_, _++_, map, List·Memᴰ}
-use Prim.Native.Nat.{ℕ, _+_, _-_, _*_, _≤_, _<_}
+use mathlib.Core.List.{List, _∷_, _++_, map, List·Memᴰ}
+use Prim.Native.Nat.{ℕ, zero, suc, _+_, _-_, _*_, _≤_, _<_}
 use native.Mathlib.Omega.{arith}
-use lib.ListN.{length, take, drop, length-append}
-use lib.Seq.{getD-take, take-at}
+use lib.ListN.{length, take, drop, replicate, length-append, length-replicate}
+use lib.Seq.{getD-take, take-at, drop-at}
 use lib.Dec.{T, eqb}
-use Rattle.rules.specs.Sizes.{maxJobs, maxLimit, statesSize}
+use Rattle.rules.specs.Sizes.{maxJobs, maxLimit, workSize, statesSize}
 use Rattle.rules.specs.Basics.{at, filter, range, joined}
-use Rattle.rules.specs.Numbers.{low, high}
+use Rattle.rules.specs.Numbers.{wordBytes}
 use Rattle.rules.specs.Fields.{Answer, got, after, numberOf}
 use Rattle.rules.specs.Needs.{circleFree}
 use Rattle.rules.specs.JobFile.{JobFile, readFile}
 use Rattle.rules.specs.Windows.{release, tail}
 use Rattle.rules.specs.Table.{Table, starts, encode, decode}
-use Rattle.rules.specs.Answers.{Outcome, planTable, tableOf, written, plan}
+use Rattle.rules.specs.Answers.{Outcome, planTable, tableOf, cleared, written, plan}
 use Rattle.rules.specs.Reports.{Reported, reportOn, reported}
 use Rattle.rules.specs.States.{stateDigit, heldJobs, stateDigits, baseThree, stateNumber, stateNumbers, stateBytes, planStates}
 use Rattle.laws.specs.Tests.{T-true, T-eqb}
@@ -29,15 +29,17 @@ use Rattle.laws.specs.Decoded.{decodedTable}
 use Rattle.laws.specs.Demands.{asked, plan-full, answers-full, answers-table, table-has-bytes, FromFile, from-file}
 use Rattle.laws.specs.Planned.{reads-back}
 use Rattle.laws.specs.Writing.{put, put-front, joined-map, joined-same}
+use Rattle.bitmap.specs.Marks.{cleared as zeroed}
 use Rattle.rows.specs.declared.Rows as code
 use Rattle.rows.specs.Rows.{Decodes}
+use Rattle.slotstates.specs.Ranks.{Times, times, holding, Narrow, slot-number}
+use Rattle.slotstates.specs.Slots.{slotBytes, slotsBytes, bytes-count}
+use Rattle.needrows.specs.Rows.{rowsSize}
 use Rattle.jobfile.specs.declared.Counts.{Counts}
 use Rattle.jobfile.specs.Reading.{Reads}
 use Rattle.planner.specs.Planner.{outcomeOf, JobsRead}
 use Rattle.planner.specs.declared.Planned.{Planned}
 use Rattle.planner.specs.declared.Planned.the-variants as planned
-use Rattle.slotstates.specs.Ranks.{Times, times, holding, Narrow, slot-number}
-use Rattle.slotstates.specs.Slots.{slotBytes, slotsBytes, bytes-count}
 
 -- the planner gives a table for the file, and these are its bytes
 pub record PlannedFor (file table : List ℕ) : Type 0 where
@@ -156,8 +158,8 @@ module _ {file table : List ℕ} (p : PlannedFor file table) where
                 ap (stateDigit k) (start-read i (omega (arith, j .held .jobs-is, held-is N (j .file .needs) (j .file .limit) k i .0 m .0)))
 
             number-same : (k : ℕ) → k < p .planned-table .slots → slotBytes z k
-                ≡ let w = stateNumber N (j .file .needs) (j .file .limit) (starts (p .planned-table)) k in low w ∷ high w ∷ []
-            number-same k h = unfold slotBytes stateDigits in ap (λ (w : ℕ). low w ∷ high w ∷ []) (
+                ≡ wordBytes (stateNumber N (j .file .needs) (j .file .limit) (starts (p .planned-table)) k)
+            number-same k h = unfold slotBytes stateDigits in ap wordBytes (
                 slot-number z k (narrow k (omega (arith, slots-read)))
                 ∙ ap (λ (l : List ℕ). baseThree (map (λ i. stateDigit k (at s i)) l)) (held-same k)
                 ∙ ap baseThree (map-agree _ _ (heldJobs N (j .file .needs) (j .file .limit) k) .1 (digit-same k)))
@@ -172,6 +174,16 @@ module _ {file table : List ℕ} (p : PlannedFor file table) where
             ∙ sym (ap (λ (x : Answer (List ℕ)). reported x states) (report-of (j .file) (p .planned-table) file (j .read) gives))
 
 -- ---- the call
+
+-- what is cleared is as it was, where it was zero
+cleared-again : (k n : ℕ) (rest : List ℕ) → k ≤ n → replicate k 0 ++ drop k (replicate n 0 ++ rest) ≡ replicate n 0 ++ rest
+cleared-again zero n rest h = refl
+cleared-again (suc k) zero rest h = absurd (omega arith)
+cleared-again (suc k) (suc n) rest h = ap (λ (l : List ℕ). 0 ∷ l) (cleared-again k n rest (omega arith))
+
+-- a list is as long as its front
+pub front-long : (part rest : List ℕ) (n : ℕ) → length part ≡ n → n ≤ length (part ++ rest)
+front-long part rest n e = omega (arith, e, length-append part rest)
 
 -- too few bytes for the numbers: nothing is changed
 pub short-states : (file work table states : List ℕ) → length states < statesSize
@@ -217,14 +229,15 @@ module _ (c : PlanCalled) where
     number-is : outcome .number ≡ 0
     number-is = sym (ap (λ (o : Outcome). o .number) (outcome-by (planned.Table size) e))
 
-    -- the bytes of a table, and what was behind them
-    written-is : (T : Table) → asked (c .file) ≡ got T → (size ≡ length (encode T)) × (c .table-left ≡ encode T ++ drop (length (encode T)) (c .table))
+    -- the bytes of a table, what was behind them, and the working buffer
+    written-is : (T : Table) → asked (c .file) ≡ got T
+        → (size ≡ length (encode T)) × (c .table-left ≡ encode T ++ drop (length (encode T)) (c .table)) × (c .work-left ≡ cleared (c .work))
     unfolding written
     written-is T a =
         let full = answers-full (c .file) (c .work) (c .table) number-is in
         let w = outcome-by (planned.Table size) e ∙ plan-full (c .file) (c .work) (c .table) (full .0) (full .1)
         ∙ ap (λ (x : Answer Table). written x (c .work) (c .table)) a in
-        (ap (λ (o : Outcome). o .size) w, ap (λ (o : Outcome). o .table) w)
+        (ap (λ (o : Outcome). o .size) w, ap (λ (o : Outcome). o .table) w, ap (λ (o : Outcome). o .work) w)
 
     -- so the table is at the front of its buffer
     pub planned-for : PlannedFor (c .file) (take size (c .table-left))
@@ -242,6 +255,33 @@ module _ (c : PlanCalled) where
         let (T, a) = answers-table (c .file) (c .work) (c .table) number-is in
         let w = written-is T a in
         omega (arith, w .0, ap length (w .1), length-append (encode T) (drop (length (encode T)) (c .table)))
+
+    -- the working buffer has room for the needs
+    pub work-in : rowsSize ≤ length (c .work-left)
+    unfolding cleared
+    work-in =
+        let (T, a) = answers-table (c .file) (c .work) (c .table) number-is in
+        omega (
+          arith,
+          ap length (written-is T a .2),
+          length-append (replicate workSize 0) (drop workSize (c .work)),
+          length-replicate {A = ℕ} workSize 0,
+        )
+
+    -- cleared of them, it is as the planner left it
+    pub work-again : (part work′ : List ℕ) → length part ≡ rowsSize → work′ ≡ zeroed rowsSize (part ++ drop rowsSize (c .work-left)) → work′ ≡ c .work-left
+    unfolding zeroed cleared
+    work-again part work′ e z =
+        let (T, a) = answers-table (c .file) (c .work) (c .table) number-is in
+        let left = written-is T a .2 in
+        z ∙ ap (replicate rowsSize 0 ++_) (drop-at part (drop rowsSize (c .work-left)) rowsSize e)
+        ∙ ap (λ (w : List ℕ). replicate rowsSize 0 ++ drop rowsSize w) left
+        ∙ cleared-again rowsSize workSize (drop workSize (c .work)) (omega arith) ∙ sym left
+
+    -- so the answer is the planner's
+    pub table-outcome : (work′ : List ℕ) → work′ ≡ c .work-left
+        → outcomeOf (planned.Table size) work′ (c .table-left) ≡ planStates (c .file) (c .work) (c .table) (c .states) .outcome
+    table-outcome work′ q = rw q (same-outcome (planned.Table size) e)
 
     -- and its numbers are given
     pub reports : (states′ : List ℕ) → states′ ≡ reported (reportOn stateBytes (c .file)) (c .states)

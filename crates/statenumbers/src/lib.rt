@@ -1,7 +1,8 @@
 // The planner with state numbers for the service screen (document 02, request 11): one for each slot of the table.
 //
 // The planner is called as it is. Where it has written a table, the job file and the table are read once more, and crate slotstates makes the numbers
-// of the starts in the table and the windows of the file.
+// of the starts in the table and the windows of the file. The working buffer, which the planner has cleared, holds the needs (crate needrows)
+// meanwhile.
 use needrows::ROWS_BYTES;
 use planner::Planned;
 use sizes::MAX_JOBS;
@@ -12,23 +13,23 @@ ghost use lib.ListN.{length};
 ghost use Rattle.rules.specs.Sizes.{statesSize};
 ghost use Rattle.rules.specs.Reports.{reportOn, reported};
 ghost use Rattle.rules.specs.States.{stateBytes, planStates};
+ghost use Rattle.needrows.specs.Rows.{rowsSize};
 ghost use Rattle.planner.specs.Planner.{outcomeOf};
 ghost use Rattle.statenumbers.specs.Answer.{PlannedFor};
 
-// The numbers of the table that was planned for a job file: both are read once more, the windows with the file's limit.
-fn put_states(file: &[u8], table: &[u8], states: &mut [u8])
-    requires { ⌜ PlannedFor (now file) (now table) × (statesSize ≤ length (now states)) ⌝ }
+// The numbers of the table that was planned for a job file: both are read once more, the windows with the file's limit. `takers` is room for the needs.
+fn put_states(file: &[u8], table: &[u8], takers: &mut [u8], states: &mut [u8])
+    requires { ⌜ PlannedFor (now file) (now table) × (rowsSize ≤ length (now takers)) × (statesSize ≤ length (now states)) ⌝ }
     ensures { λ _. ⌜ now (states .exit) ≡ reported (reportOn stateBytes (now (file .entry))) (now (states .entry)) ⌝ }
 {
     let mut offsets = [0; MAX_JOBS];
-    let mut takers = [0; ROWS_BYTES];
-    let f = jobfile::read_file(file, &mut offsets, &mut takers);
+    let f = jobfile::read_file(file, &mut offsets, takers);
     let jobs = f.jobs;
     let mut order = [0; MAX_JOBS];
     let mut release = [0; MAX_JOBS];
-    releases::peel(&takers, jobs, &mut order, &mut release);
+    releases::peel(takers, jobs, &mut order, &mut release);
     let mut tail = [0; MAX_JOBS];
-    releases::tails(&takers, jobs, &order, &mut tail);
+    releases::tails(takers, jobs, &order, &mut tail);
     let mut rows = [0; MAX_JOBS];
     let mut starts = [0; MAX_JOBS];
     let mut boards = [0; MAX_JOBS];
@@ -51,6 +52,7 @@ pub fn state_numbers(file: &[u8], work: &mut [u8], table: &mut [u8], states: &mu
     let Planned::Table(size) = p else {
         return p;
     };
-    put_states(file, &table[..size], states);
+    put_states(file, &table[..size], &mut work[..ROWS_BYTES], states);
+    bitmap::clear(work, ROWS_BYTES);
     p
 }

@@ -30,25 +30,6 @@ threes S = threesTo 8 S
 unfoldable pub numberOf : Set → Set → ℕ
 numberOf done ran = threes done + threes ran
 
-module _ (S : Set) (k : ℕ) where
-  -- a member from w up is not counted
-  threes-beyond : (w : ℕ) → w ≤ k → threesTo w (with S k) ≡ threesTo w S
-  unfolding threesTo
-  threes-beyond zero h = refl
-  threes-beyond (suc w) h =
-      ap₂ (λ (x : ℕ) (b : Bool). x + choose b (3 ^ w) 0) (threes-beyond w (omega arith)) (with-other S k w (λ e. omega arith))
-
-  -- a new member counts 3 to its power
-  pub threes-with : (w : ℕ) → k < w → member S k ≡ false → threesTo w (with S k) ≡ threesTo w S + 3 ^ k
-  unfolding threesTo
-  threes-with zero h new = absurd (omega arith)
-  threes-with (suc w) h new = go (ℕ-discrete w k) (λ l. threes-with w l new)
-    where
-      go : Dec (w ≡ k) → (k < w → threesTo w (with S k) ≡ threesTo w S + 3 ^ k)
-          → threesTo w (with S k) + choose (member (with S k) w) (3 ^ w) 0 ≡ threesTo w S + choose (member S w) (3 ^ w) 0 + 3 ^ k
-      go (yes e) rest = rw e (unfold choose in rw (with-same S k, new, threes-beyond k (omega arith)) (omega arith))
-      go (no n) rest = rw (with-other S k w n) (omega (arith, rest (omega arith)))
-
 -- ---- the table of 256 numbers
 
 -- the entry for a byte
@@ -130,3 +111,24 @@ number-injective d r e q od oe i j h = (
     each : (x y : Set) (k : ℕ) → Eight x → Eight y → (k < 8 → member x k ≡ member y k) → Dec (k < 8) → member x k ≡ member y k
     each x y k a b f (yes l) = f l
     each x y k a b f (no l) = absent (member x k) (λ m. l (a k m)) ∙ sym (absent (member y k) (λ m. l (b k m)))
+
+-- ---- one member more
+
+module _ (S : Set) (k : ℕ) where
+  -- a member from w up is not counted
+  threes-beyond : (w : ℕ) → w ≤ k → threesTo w (with S k) ≡ threesTo w S
+  unfolding threesTo
+  threes-beyond zero h = refl
+  threes-beyond (suc w) h =
+      ap₂ (λ (x : ℕ) (b : Bool). x + choose b (3 ^ w) 0) (threes-beyond w (omega arith)) (with-other S k w (λ e. omega arith))
+
+  -- a new member counts 3 to its power
+  pub threes-with : (w : ℕ) → k < w → member S k ≡ false → threesTo w (with S k) ≡ threesTo w S + 3 ^ k
+  unfolding threesTo
+  threes-with zero h new = absurd (omega arith)
+  threes-with (suc w) h new = go (ℕ-discrete w k) (λ l. threes-with w l new)
+    where
+      go : Dec (w ≡ k) → (k < w → threesTo w (with S k) ≡ threesTo w S + 3 ^ k)
+          → threesTo w (with S k) + choose (member (with S k) w) (3 ^ w) 0 ≡ threesTo w S + choose (member S w) (3 ^ w) 0 + 3 ^ k
+      go (yes e) rest = rw e (unfold choose in rw (with-same S k, new, threes-beyond k (omega arith)) (omega arith))
+      go (no n) rest = rw (with-other S k w n) (omega (arith, rest (omega arith)))

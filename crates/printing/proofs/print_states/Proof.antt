@@ -1,6 +1,6 @@
 -- `printing::print_states` meets its contract. Assumes nothing.
-use mathlib.Core.Path.{sym, ap, _∙_}
 use borrow.Author.Needs.{needs}
+use mathlib.Core.Path.{sym, ap, _∙_}
 use Rattle.gate.specs.Numbers.{plannedNumber}
 use Rattle.printing.proofs.print_states.Statement.{statement}
 use Rattle.printing.proofs.print_states.Tie as tie
@@ -10,6 +10,9 @@ enum-told c = search needs
 
 slots-in-requires : tie.Need-slots-in-requires
 slots-in-requires c κs = search needs
+
+first-requires : tie.Need-first-requires
+first-requires c κs = search needs
 
 print-requires : tie.Need-print-requires
 print-requires c κs = search needs
@@ -22,7 +25,7 @@ print-refused-requires c κs = search needs
 
 returns : tie.Need-returns
 unfolding plannedNumber
-returns c = sym (ap plannedNumber (c .before .before .enum-told .given .1))
+returns c = sym (ap plannedNumber (c .before .before .before .enum-told .given .1))
 
 returns-2 : tie.Need-returns-2
 unfolding plannedNumber
@@ -34,6 +37,7 @@ print-states-spec =
     (tie.spec
     enum-told
     slots-in-requires
+    first-requires
     print-requires
     enum-known-p
     print-refused-requires

@@ -5,7 +5,7 @@ use Prim.Native.Nat.{_≤_, _-_}
 use native.Mathlib.Omega.{arith}
 use Rattle.rules.specs.Basics.{at}
 use Rattle.layout.specs.Layout.{tablesIn}
-use Rattle.backtrack.specs.Listing.{rowFrom}
+use Rattle.placesets.specs.Listing.{rowFrom}
 use Rattle.slotboards.specs.Turns.{row-turn, each-row, row-end}
 use Rattle.slotboards.specs.Placing.{Filling, filling, takes, takeLowest, each, Fits}
 use Rattle.slotboards.proofs.take_row.Statement.{statement}

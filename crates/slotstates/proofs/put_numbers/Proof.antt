@@ -1,10 +1,9 @@
 -- `slotstates::put_numbers` meets its contract. Assumes nothing.
 use mathlib.Core.Path.{sym, ap, subst, _∙_}
-use mathlib.Core.List.{[], _∷_}
 use Prim.Native.Nat.{ℕ, _-_, _*_}
 use native.Mathlib.Omega.{arith}
 use borrow.Author.Needs.{needs}
-use Rattle.rules.specs.Numbers.{low, high}
+use Rattle.rules.specs.Numbers.{wordBytes}
 use Rattle.laws.specs.Writing.{put, WrittenSoFar, so-far-start, so-far-put, so-far-end}
 use Rattle.threes.specs.Threes.{numberOf}
 use Rattle.slotstates.specs.declared.Ranks.{Ranks}
@@ -56,7 +55,7 @@ loop-again c =
     let ranks = c .before .before .before .before .before .ranks-in .ensures in
     let e = number ∙ ap (λ (z : Ranks). numberOf (z .begun) (z .running)) ranks in
     so-far-put (l .inv) (c .before .before .before .before .before .before .loop-test .taken) _ _ (omega arith)
-    (c .before .before .put-word .ensures ∙ ap (λ (w : ℕ). put (2 * l .slot) (low w ∷ high w ∷ []) (l .states)) e)
+    (c .before .before .put-word .ensures ∙ ap (λ (w : ℕ). put (2 * l .slot) (wordBytes w) (l .states)) e)
 
 same-length : tie.Need-same-length Inv-loop μ-loop
 same-length c = c .before .loop .inv .size

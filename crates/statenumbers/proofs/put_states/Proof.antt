@@ -16,10 +16,10 @@ use Rattle.statenumbers.proofs.put_states.Tie as tie
 
 -- from the reader of the file to the start; from the peeling to the reader; from the tails to the peeling
 abbrev to-start : tie.After-read-file → tie.Start
-to-start c = c .before .before .before .before .before .before
+to-start c = c .before .before .before .before .before .before .before
 
 abbrev to-reader : tie.After-peel → tie.After-read-file
-to-reader c = c .before .before .before .before .before
+to-reader c = c .before .before .before .before .before .before
 
 abbrev to-peel : tie.After-tails → tie.After-peel
 to-peel c = c .before .before .before .before
@@ -29,7 +29,7 @@ read : (c : tie.After-read-file) → let r = c .read-file in
     JobsRead (to-start c .args .file .now) (r .result .jobs) (r .result .limit) (r .last .1 .0) (r .last .1 .1 .0)
 read c =
     let reads = c .read-file .ensures .0 in
-    let bytes = c .before .before .before .before .before .shared-slice-known .given in
+    let bytes = c .before .before .before .before .before .before .shared-slice-known .given in
     jobs-read reads (number-zero (to-start c .pre .0) reads) (λ i. omega (arith, bytes i))
 
 -- its jobs are peeled again, and there is no circle
@@ -49,20 +49,11 @@ tails-are : (c : tie.After-tails) → let r = to-reader (to-peel c) in let j = r
     → at (c .tails .last .1 .1 .1 .0) i ≡ tail (r .read-file .result .jobs) (j .file .needs) i
 tails-are c = let j = read (to-reader (to-peel c)) in c .tails .ensures (j .file .needs) (j .held .needs-in) (j .held .rows-are)
 
-slice-aggregate-read-file : tie.Need-slice-aggregate-read-file
-slice-aggregate-read-file c = search needs
-
 read-file-requires : tie.Need-read-file-requires
 read-file-requires c κs = search needs
 
-slice-aggregate-peel : tie.Need-slice-aggregate-peel
-slice-aggregate-peel c = search needs
-
 peel-requires : tie.Need-peel-requires
-peel-requires c κs = (of-needs (read (c .before .before .before .before)), length-replicate {A = ℕ} 400 0, refl)
-
-slice-aggregate-tails : tie.Need-slice-aggregate-tails
-slice-aggregate-tails c = search needs
+peel-requires c κs = (of-needs (read (c .before .before .before .before .before)), length-replicate {A = ℕ} 400 0, refl)
 
 tails-requires : tie.Need-tails-requires
 tails-requires c κs =
@@ -77,11 +68,14 @@ put-numbers-requires c κs =
     let r = to-reader (to-peel k) in
     let z = to-start r in
     let d = c .before .before .before .before .read-rows .ensures in
-    let room = room-for (z .pre .0) (read r) d (z .args .states .now) (z .pre .1) in
+    let room = room-for (z .pre .0) (read r) d (z .args .states .now) (z .pre .2) in
     (read r .held .few, room .0, room .1, narrow (z .pre .0) (read r) d _ _ (releases-are (to-peel k)) (tails-are k))
 
 same-length : tie.Need-same-length
 same-length c = search needs
+
+same-length-2 : tie.Need-same-length-2
+same-length-2 c = search needs
 
 returns : tie.Need-returns
 returns c =
@@ -89,19 +83,17 @@ returns c =
     let r = to-reader (to-peel k) in
     let p = to-start r .pre in
     let d = c .before .before .before .before .before .before .before .read-rows .ensures in
-    bytes-written (p .0) (read r) d _ _ (releases-are (to-peel k)) (tails-are k) _ _ (p .1) (c .before .before .put-numbers .ensures)
+    bytes-written (p .0) (read r) d _ _ (releases-are (to-peel k)) (tails-are k) _ _ (p .2) (c .before .before .put-numbers .ensures)
 
 pub put-states-spec : {M : Type 1} → statement M
 put-states-spec =
     tie.close
     (tie.spec
-    slice-aggregate-read-file
     read-file-requires
-    slice-aggregate-peel
     peel-requires
-    slice-aggregate-tails
     tails-requires
     read-rows-requires
     put-numbers-requires
     same-length
+    same-length-2
     returns)

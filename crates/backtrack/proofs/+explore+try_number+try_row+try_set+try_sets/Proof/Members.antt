@@ -26,14 +26,14 @@ use Rattle.backtrack.proofs.+explore+try_number+try_row+try_set+try_set
 use Rattle.backtrack.proofs.try_sets.Reads as try-sets
 use Rattle.backtrack.proofs.try_sets.Kinds as try-sets-kinds
 use Rattle.backtrack.proofs.+explore+try_number+try_row+try_set+try_sets.Lts-try_sets as try-sets-lts
-use Rattle.backtrack.proofs.by_number.Reads as by-number-reads
+use Rattle.placesets.proofs.by_number.Reads as by-number-reads
 use Rattle.backtrack.proofs.candidates_at.Reads as candidates-at-reads
 use Rattle.backtrack.proofs.choice_of.Reads as choice-of-reads
 use Rattle.backtrack.proofs.exceeds.Reads as exceeds-reads
-use Rattle.backtrack.proofs.first_end.Reads as first-end-reads
+use Rattle.placesets.proofs.first_end.Reads as first-end-reads
 use Rattle.backtrack.proofs.key_of.Reads as key-of-reads
-use Rattle.backtrack.proofs.next_end.Reads as next-end-reads
-use Rattle.backtrack.proofs.pick.Reads as pick-reads
+use Rattle.placesets.proofs.next_end.Reads as next-end-reads
+use Rattle.placesets.proofs.pick.Reads as pick-reads
 
 abbrev pub μ-explore : Measures 3 explore-kinds.ps ℕ
 μ-explore κs a = 5 * (64 - a .1 .1 .1 .1 .0) + 4

@@ -17,8 +17,8 @@ use Rattle.places.specs.Tables.{Tables}
 use Rattle.layout.specs.Layout.{tablesIn}
 use Rattle.backtrack.specs.Steps.{told-none, not-apart, not-must, tried-so, takes-held}
 use Rattle.backtrack.specs.Search.{InSlot, Takes, mustAt, after}
-use Rattle.backtrack.specs.Picking.{pickedOf, place-in, picked-places, picked-shared, picked-fits}
-use Rattle.backtrack.specs.Listing.{rowFrom}
+use Rattle.placesets.specs.Picking.{pickedOf, place-in, picked-places, picked-shared, picked-fits}
+use Rattle.placesets.specs.Listing.{rowFrom}
 use Rattle.backtrack.proofs.+explore+try_number+try_row+try_set+try_sets.Proof.Members.{try-number-at, try-number-claims}
 use Rattle.backtrack.proofs.try_number.Reads as try-number
 use Rattle.backtrack.proofs.+explore+try_number+try_row+try_set+try_sets.Lts-try_number as try-number-lts

@@ -11,8 +11,8 @@ use Rattle.layout.specs.Layout.{tablesIn}
 use Rattle.backtrack.specs.Steps.{told-none, belowIn, tryIn, told-same, Going, going-start, going-next, going-hit, going-on, going-down, going-end}
 use Rattle.backtrack.specs.Steps.{first-numbers, takes-of}
 use Rattle.backtrack.specs.Search.{choiceTries, InSlot, Told}
-use Rattle.backtrack.specs.Listing.{rowFrom}
-use Rattle.backtrack.specs.Numbers.{digitsOf, endBelow, end-le, Ended, ended-low, ended-many, ended-next, chosen-low}
+use Rattle.placesets.specs.Listing.{rowFrom}
+use Rattle.placesets.specs.Numbers.{digitsOf, endBelow, end-le, Ended, ended-low, ended-many, ended-next, chosen-low}
 use Rattle.backtrack.specs.Choosing.{rowOf}
 use Rattle.backtrack.proofs.+explore+try_number+try_row+try_set+try_sets.Proof.Members.{try-row-at, try-row-claims}
 use Rattle.backtrack.proofs.try_row.Reads as try-row

@@ -1,6 +1,7 @@
 -- `printing::numbers::print_entries` meets its contract. Assumes nothing.
-use Prim.Native.Nat.{_-_, _≤_}
 use borrow.Author.Needs.{needs}
+use Prim.Native.Nat.{_-_, _≤_}
+use native.Mathlib.Omega.{arith}
 use Rattle.printing.proofs.numbers.print_entries.Statement.{statement}
 use Rattle.printing.proofs.numbers.print_entries.Tie as tie
 
@@ -32,7 +33,7 @@ loop-again : tie.Need-loop-again Inv-loop μ-loop
 loop-again c = search needs
 
 returns : tie.Need-returns Inv-loop μ-loop
-returns c = search needs
+returns c = omega (arith, c .before .loop .inv, c .loop-test .left)
 
 pub print-entries-spec : {M : Type 1} → statement M
 print-entries-spec =

@@ -1,4 +1,4 @@
--- `backtrack::next_end` meets its contract. Assumes nothing.
+-- `placesets::next_end` meets its contract. Assumes nothing.
 use borrow.Author.Needs.{needs}
 use mathlib.Core.Path.{_≡_, sym, ap, _∙_}
 use Prim.Native.Nat.{_-_, _*_, _%_, _^_}
@@ -6,9 +6,9 @@ use native.Mathlib.Omega.{arith}
 use Rattle.jobset.specs.declared.Set.{Set}
 use Rattle.jobset.specs.Sets.{isEmpty, lowest}
 use Rattle.jobset.specs.Digits.{shifted-one}
-use Rattle.backtrack.specs.Numbers.{digitsOf, end-le, above, upper, takenOff, Moves, end-last, end-next}
-use Rattle.backtrack.proofs.next_end.Statement.{statement}
-use Rattle.backtrack.proofs.next_end.Tie as tie
+use Rattle.placesets.specs.Numbers.{digitsOf, end-le, above, upper, takenOff, Moves, end-last, end-next}
+use Rattle.placesets.proofs.next_end.Statement.{statement}
+use Rattle.placesets.proofs.next_end.Tie as tie
 
 -- what they have in common is not empty
 moves : (c : tie.Else1) → Moves (c .before .before .before .before .args .number .bits)

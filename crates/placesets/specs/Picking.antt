@@ -17,8 +17,8 @@ use Rattle.jobset.specs.Members.{in-members}
 use Rattle.jobset.specs.Tests.{absent, present, bool-ext}
 use Rattle.places.specs.Rows.{bit-low, empty-says, chosen, placesOf, in-places, fitting, fitting-loose}
 use Rattle.places.specs.Fit.{members-distinct}
-use Rattle.backtrack.specs.Listing.{rowFrom}
-use Rattle.backtrack.specs.Numbers.{fallingFrom, none-falling, chosen-falling, in-falling}
+use Rattle.placesets.specs.Listing.{rowFrom}
+use Rattle.placesets.specs.Numbers.{fallingFrom, none-falling, chosen-falling, in-falling}
 use Rattle.layout.specs.Layout.{placeSets}
 
 -- the places of a list one after the other; `places` and `givers` are those so far

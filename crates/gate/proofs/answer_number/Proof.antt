@@ -1,10 +1,10 @@
--- `gate::number_of` meets its contract. Assumes nothing.
+-- `gate::answer_number` meets its contract. Assumes nothing.
 use borrow.Author.Needs.{needs}
 use mathlib.Core.Path.{sym, ap}
 use native.Mathlib.Omega.{arith}
 use Rattle.gate.specs.Numbers.{plannedSize, answerNumber}
-use Rattle.gate.proofs.number_of.Statement.{statement}
-use Rattle.gate.proofs.number_of.Tie as tie
+use Rattle.gate.proofs.answer_number.Statement.{statement}
+use Rattle.gate.proofs.answer_number.Tie as tie
 
 enum-known-p : tie.Need-enum-known-p
 enum-known-p c = search needs
@@ -30,7 +30,7 @@ returns-2 : tie.Need-returns-2
 unfolding answerNumber
 returns-2 c = sym (ap answerNumber (c .before .p2 .given .1))
 
-pub number-of-spec : {M : Type 1} → statement M
-number-of-spec =
+pub answer-number-spec : {M : Type 1} → statement M
+answer-number-spec =
     tie.close
     (tie.spec enum-known-p cast-result enum-known-p-2 cast-result-2 add-result returns returns-2)

@@ -1,4 +1,4 @@
--- `backtrack::pick` meets its contract. Assumes nothing.
+-- `placesets::pick` meets its contract. Assumes nothing.
 use borrow.Author.Needs.{needs}
 use borrow.Author.Tests.{not-true, not-false}
 use mathlib.Core.List.{map}
@@ -11,9 +11,9 @@ use Rattle.jobset.specs.Sets.{members, isEmpty, intersection, Subset}
 use Rattle.jobset.specs.Inclusion.{subset-refl, subset-trans, without-subset}
 use Rattle.places.specs.Slot.{nearAt}
 use Rattle.layout.specs.Layout.{tablesIn}
-use Rattle.backtrack.specs.Picking.{pickFrom, pickedOf}
-use Rattle.backtrack.proofs.pick.Statement.{statement}
-use Rattle.backtrack.proofs.pick.Tie as tie
+use Rattle.placesets.specs.Picking.{pickFrom, pickedOf}
+use Rattle.placesets.proofs.pick.Statement.{statement}
+use Rattle.placesets.proofs.pick.Tie as tie
 
 abbrev Inv-loop : tie.InvT-loop
 Inv-loop tables slot ran row rest₀ places₀ givers₀ rest places givers =

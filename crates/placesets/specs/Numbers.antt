@@ -19,7 +19,7 @@ use Rattle.jobset.specs.declared.Set.{Set}
 use Rattle.jobset.specs.Sets.{digit, member, intersection, isEmpty, lowest}
 use Rattle.jobset.specs.Tests.{absent, present}
 use Rattle.places.specs.Rows.{bit-low, chosen, picks, isTry, triedBelow}
-use Rattle.backtrack.specs.Listing.{rowFrom, row-length}
+use Rattle.placesets.specs.Listing.{rowFrom, row-length}
 use Rattle.layout.specs.Layout.{placeSets}
 
 -- the members of x below k, falling

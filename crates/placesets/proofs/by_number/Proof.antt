@@ -1,4 +1,4 @@
--- `backtrack::by_number` meets its contract. Assumes nothing.
+-- `placesets::by_number` meets its contract. Assumes nothing.
 use borrow.Author.Needs.{needs}
 use mathlib.Core.Path.{_≡_, sym, _∙_}
 use Prim.Native.Nat.{_<_, _≤_, _^_}
@@ -7,9 +7,9 @@ use lib.ListN.{length, length-set}
 use Rattle.jobset.specs.Members.{end, without-less}
 use Rattle.jobset.specs.Tests.{not-true-iff}
 use Rattle.layout.specs.Layout.{tablesIn}
-use Rattle.backtrack.specs.Listing.{Listing, listing-start, listing-eight, listing-room, listing-next, listing-end}
-use Rattle.backtrack.proofs.by_number.Statement.{statement}
-use Rattle.backtrack.proofs.by_number.Tie as tie
+use Rattle.placesets.specs.Listing.{Listing, listing-start, listing-eight, listing-room, listing-next, listing-end}
+use Rattle.placesets.proofs.by_number.Statement.{statement}
+use Rattle.placesets.proofs.by_number.Tie as tie
 
 abbrev Inv-loop : tie.InvT-loop
 Inv-loop tables slot row₀ rest₀ count₀ row rest count = (rest .bits < 2 ^ 64) × (count ≤ 8) × (length row ≡ 8)

@@ -1,13 +1,13 @@
--- `backtrack::first_end` meets its contract. Assumes nothing.
+-- `placesets::first_end` meets its contract. Assumes nothing.
 use borrow.Author.Needs.{needs}
 use mathlib.Core.Path.{_≡_, sym}
 use Prim.Native.Nat.{_-_, _*_, _%_, _^_, _≤_}
 use native.Mathlib.Omega.{arith}
 use lib.Pow.{pow-mono}
 use Rattle.jobset.specs.Digits.{shifted-one}
-use Rattle.backtrack.specs.Numbers.{end-first, end-too-many}
-use Rattle.backtrack.proofs.first_end.Statement.{statement}
-use Rattle.backtrack.proofs.first_end.Tie as tie
+use Rattle.placesets.specs.Numbers.{end-first, end-too-many}
+use Rattle.placesets.proofs.first_end.Statement.{statement}
+use Rattle.placesets.proofs.first_end.Tie as tie
 
 -- the two powers, as the code shifts them
 power : (c : tie.Else1) → (1 * 2 ^ c .before .args .size) % 2 ^ 64 ≡ 2 ^ c .before .args .size

@@ -1,8 +1,8 @@
--- `backtrack::givers_at` meets its contract. Assumes nothing.
+-- `placesets::givers_at` meets its contract. Assumes nothing.
 use borrow.Author.Needs.{needs}
 use Rattle.layout.specs.Layout.{tablesIn}
-use Rattle.backtrack.proofs.givers_at.Statement.{statement}
-use Rattle.backtrack.proofs.givers_at.Tie as tie
+use Rattle.placesets.proofs.givers_at.Statement.{statement}
+use Rattle.placesets.proofs.givers_at.Tie as tie
 
 mul-set-at : tie.Need-mul-set-at
 mul-set-at c = search needs

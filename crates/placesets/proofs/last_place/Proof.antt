@@ -1,4 +1,4 @@
--- `backtrack::last_place` meets its contract. Assumes nothing.
+-- `placesets::last_place` meets its contract. Assumes nothing.
 use borrow.Author.Needs.{needs}
 use mathlib.Core.Bool.{true}
 use mathlib.Core.Path.{_≡_, sym, ap, _∙_}
@@ -7,9 +7,9 @@ use Rattle.jobset.specs.Members.{Turn, turn, end}
 use Rattle.jobset.specs.Lowest.{lowest-member}
 use Rattle.jobset.specs.Sets.{member, without}
 use Rattle.layout.specs.Layout.{tablesIn}
-use Rattle.backtrack.specs.Listing.{And, in-and, Leading, leading-start, leading-next, leading-end}
-use Rattle.backtrack.proofs.last_place.Statement.{statement}
-use Rattle.backtrack.proofs.last_place.Tie as tie
+use Rattle.placesets.specs.Listing.{And, in-and, Leading, leading-start, leading-next, leading-end}
+use Rattle.placesets.proofs.last_place.Statement.{statement}
+use Rattle.placesets.proofs.last_place.Tie as tie
 
 abbrev Inv-loop : tie.InvT-loop
 Inv-loop tables slot last₀ rest₀ last rest = (rest .bits < 2 ^ 64) × Leading (tablesIn tables .who slot) (And last₀ rest₀) last rest

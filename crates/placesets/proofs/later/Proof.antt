@@ -1,11 +1,11 @@
--- `backtrack::later` meets its contract. Assumes nothing.
+-- `placesets::later` meets its contract. Assumes nothing.
 use borrow.Author.Tests.{lt-ltb, le-ltb}
 use borrow.Author.Needs.{needs}
 use Rattle.rules.specs.Basics.{choose}
 use Rattle.layout.specs.Layout.{tablesIn}
-use Rattle.backtrack.specs.Listing.{laterOf}
-use Rattle.backtrack.proofs.later.Statement.{statement}
-use Rattle.backtrack.proofs.later.Tie as tie
+use Rattle.placesets.specs.Listing.{laterOf}
+use Rattle.placesets.proofs.later.Statement.{statement}
+use Rattle.placesets.proofs.later.Tie as tie
 
 mul-first : tie.Need-mul-first
 mul-first c = search needs
