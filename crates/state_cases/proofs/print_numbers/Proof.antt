@@ -9,7 +9,7 @@ slice-relend-prefix-state-numbers : tie.Need-slice-relend-prefix-state-numbers
 slice-relend-prefix-state-numbers c = search needs
 
 slice-aggregate-state-numbers : tie.Need-slice-aggregate-state-numbers
-slice-aggregate-state-numbers c = 
+slice-aggregate-state-numbers c =
     let z = c .before .before .before .before .before .before .before in
     sym (length-take-le (z .args .room) (z .args .states .now) (z .pre))
 
