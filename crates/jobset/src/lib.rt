@@ -1,5 +1,5 @@
-// A set of numbers below 64, one bit of a u64 each: i is a member where digit i of the number is 1. It is a set of places of a slot, of boards, or of
-// the jobs that one word of a row of needs stands for.
+// A set of numbers below 64, one bit of a u64 each: i is a member where digit i of the number is 1. It is a set of places of a slot, of ranks of
+// its jobs, of boards, or of the jobs that one word of a row of needs stands for.
 // Callers use the laws of membership in specs/ and never the bits.
 ghost use mathlib.Core.Path.{_≡_};
 ghost use mathlib.Core.Bool.{false};

@@ -1,5 +1,5 @@
-// The text that the programs print: a planned table, a table for people, pairs of job numbers, the lines of the small gates, state numbers and the entries of their
-// table, a refusal.
+// The text that the programs print: a planned table, a table for people, pairs of job numbers, the lines of the small gates, state
+// numbers and the entries of their table, a refusal.
 //
 // What is printed is tested, each program against its file `stdout`, and not proved: a contract cannot speak of what goes out. What a function
 // gives back is proved.

@@ -18,7 +18,7 @@ slotBytes z s = wordBytes (numberOf (ranksIn z s .begun) (ranksIn z s .running))
 unfoldable pub slotsBytes : Times → ℕ → List ℕ
 slotsBytes z slots = joined (slotBytes z) (range slots 0)
 
-pub two-bytes : (z : Times) (s : ℕ) → length (slotBytes z s) ≡ 2
+two-bytes : (z : Times) (s : ℕ) → length (slotBytes z s) ≡ 2
 unfolding slotBytes
 two-bytes z s = refl
 

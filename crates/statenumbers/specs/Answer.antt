@@ -57,7 +57,7 @@ module _ {file table : List ℕ} (p : PlannedFor file table) where
 
   module _ {n L : ℕ} {o rows : List ℕ} (j : JobsRead file n L o rows) where
     -- what the planner gives for it
-    pub gives : planTable (j .file) ≡ got (p .planned-table)
+    gives : planTable (j .file) ≡ got (p .planned-table)
     unfolding after
     gives = sym (ap (λ (x : Answer JobFile). after x planTable) (j .read)) ∙ p .is-planned
 
@@ -109,7 +109,7 @@ module _ {file table : List ℕ} (p : PlannedFor file table) where
           sym (getD-take (r .count) s i 0 (omega (arith, is-table .0, j .held .jobs-is)))
           ∙ ap (λ (l : List ℕ). at l i) (d .held read-ok .starts-are ∙ ap starts (is-table .1))
 
-      -- there is room for them
+      -- there is room for the numbers of so many slots
       pub room-for : (states : List ℕ) → statesSize ≤ length states → (r .slots ≤ maxLimit) × (2 * r .slots ≤ length states)
       room-for states room = omega (arith, slots-read, slots-few, j .held .limit-is, j .keeps .limit-in)
 
@@ -145,7 +145,7 @@ module _ {file table : List ℕ} (p : PlannedFor file table) where
             )
 
         -- the bytes are those of the rules
-        pub bytes-same : slotsBytes (times s releases tails n L) (r .slots) ≡ stateBytes (j .file) (p .planned-table)
+        bytes-same : slotsBytes z (r .slots) ≡ stateBytes (j .file) (p .planned-table)
         unfolding slotsBytes stateBytes stateNumbers
         bytes-same =
             ap (λ (c : ℕ). joined (slotBytes z) (range c 0)) slots-read
@@ -175,7 +175,7 @@ module _ {file table : List ℕ} (p : PlannedFor file table) where
 
 -- ---- the call
 
--- what is cleared is as it was, where it was zero
+-- zeros that are cleared once more are as they were
 cleared-again : (k n : ℕ) (rest : List ℕ) → k ≤ n → replicate k 0 ++ drop k (replicate n 0 ++ rest) ≡ replicate n 0 ++ rest
 cleared-again zero n rest h = refl
 cleared-again (suc k) zero rest h = absurd (omega arith)
