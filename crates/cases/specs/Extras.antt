@@ -1,17 +1,14 @@
 -- Extra jobs behind those of a gate (document 02, request 12), by computing: "boards may move"; two groups that are planned can be too wide together; and
 -- starts move where a term is left: with two boards, or with extras that need more slots than the gate. Assumes nothing.
-use Rattle.std.specs.Prelude.{◌≡◌, refl, List, [], ◌∷◌, ◌++◌, ℕ, ◌≤◌, length, replicate, T}
-use Rattle.std.proofs.Common.{sym, ap, ◌∙◌, arith}
-use Rattle.rules.specs.Basics.{at, range}
-use Rattle.rules.specs.Fields.{refused, got, after}
+-- More of what holds: proofs/Extras.antt.
+use Rattle.std.specs.Prelude.{◌≡◌, refl, List, [], ◌∷◌, ◌++◌, ℕ, length, replicate, T}
+use Rattle.rules.specs.Basics.{range}
+use Rattle.rules.specs.Fields.{refused, got}
 use Rattle.rules.specs.JobFile.{JobFile, most_boards, read_file}
-use Rattle.rules.specs.Table.{Table, starts}
-use Rattle.laws.specs.Fields.{got_same}
 use Rattle.laws.specs.JobFile.{needs-in, readable}
-use Rattle.laws.specs.Demands.{asked}
 use Rattle.laws.specs.Extras.{behind, union-append}
-use Rattle.laws.specs.ExtraFiles.{Extended, Says, ThreeTables}
-use Rattle.cases.specs.Case.{Schedule, Case, file_of, schedule, scheduled, Holds}
+use Rattle.laws.specs.ExtraFiles.{Extended, Says}
+use Rattle.cases.specs.Case.{Case, file_of, Holds}
 use Rattle.cases.specs.Searched.{bytesb, bytes-are}
 use Rattle.cases.specs.Computed.{computed, whole_case}
 use Rattle.cases.specs.Cases.{planned, plain}
@@ -106,13 +103,13 @@ longer-extras-move-starts =
     (says tt refl) (says tt refl) (says tt refl) (computed tt refl tt) (computed tt refl tt) (computed tt refl tt)
 
 -- "CR 12 is kept where tag 9 is absent": the needs 1-3, 2-3 and a chain of three, all with two boards
-abbrev two_givers : List ℕ
+abbrev pub two_givers : List ℕ
 two_givers = file_of 3 ((1, 3) ∷ (2, 3) ∷ []) 3 ++ 9 ∷ 1 ∷ 0 ∷ 2 ∷ []
 
-abbrev chain_of_three : List ℕ
+abbrev pub chain_of_three : List ℕ
 chain_of_three = file_of 3 ((1, 2) ∷ (2, 3) ∷ []) 3 ++ 9 ∷ 1 ∷ 0 ∷ 2 ∷ []
 
-abbrev chain_behind : List ℕ
+abbrev pub chain_behind : List ℕ
 chain_behind = file_of 6 ((1, 3) ∷ (2, 3) ∷ (4, 5) ∷ (5, 6) ∷ []) 3 ++ 9 ∷ 1 ∷ 0 ∷ 2 ∷ []
 
 -- job 2 starts a slot later where the chain runs beside it, in a table that is as short
@@ -123,22 +120,3 @@ unfolding whole_case whole_of behind
 two-boards-move-starts =
     example 13 refl refl refl
     (says tt refl) (says tt refl) (says tt refl) (computed tt refl tt) (computed tt refl tt) (computed tt refl tt)
-
--- the schedule of a case is that of the table that its file gets
-schedule-is : {file : List ℕ} {S : Schedule} {T : Table} → Holds (plain file (got S)) → asked file ≡ got T → schedule T ≡ S
-unfolding scheduled after
-schedule-is {S = S} {T = T} h e = got_same (schedule T) S (sym (ap scheduled e) ∙ h.answers)
-
--- so what `starts-kept` gives with eight boards does not hold of these files
-pub two-boards-not-kept : ¬ (ThreeTables two_givers chain_of_three chain_behind)
-unfolding schedule
-two-boards-not-kept k =
-    let g = schedule-is two-boards-move-starts.gate-holds k.gate-gets.leads in
-    let e = schedule-is two-boards-move-starts.extras-holds k.extras-gets.leads in
-    let w = schedule-is two-boards-move-starts.whole-holds k.whole-gets.leads in
-    let gate : starts k.gate-table ≡ 0 ∷ 0 ∷ 2 ∷ [] = ap (λ (S : Schedule). S.starts) g in
-    let whole : starts k.whole-table ≡ 0 ∷ 1 ∷ 2 ∷ 0 ∷ 1 ∷ 2 ∷ [] = ap (λ (S : Schedule). S.starts) w in
-    let short : k.extras-table.slots ≤ k.gate-table.slots = omega (arith, ap (λ (S : Schedule). S.slots) g, ap (λ (S : Schedule). S.slots) e) in
-    let kept : ◌≡◌ {A = List ℕ} (0 ∷ 1 ∷ 2 ∷ []) (0 ∷ 0 ∷ 2 ∷ []) = rw (gate, whole) at (k.keeps short) in
-    let second : ◌≡◌ {A = ℕ} 1 0 = ap (λ (l : List ℕ). at l 1) kept in
-    omega arith

@@ -6,7 +6,8 @@ use Rattle.rules.specs.Fields.{refused, got}
 use Rattle.rules.specs.JobFile.{read_file}
 use Rattle.laws.specs.FileParts.{done, more}
 use Rattle.laws.specs.Comments.{comment, SameAnswers}
-use Rattle.laws.specs.RepeatedNeeds.{NeedField, repeat-same}
+use Rattle.laws.specs.RepeatedNeeds.{NeedField}
+use Rattle.laws.proofs.RepeatedAnswers.{repeat-same}
 use Rattle.cases.specs.Case.{file_of, Holds}
 use Rattle.cases.specs.Searched.{bytesb, bytes-are}
 use Rattle.cases.specs.Computed.{computed, file_bytes, file_questions, whole_case}

@@ -1,4 +1,5 @@
 -- The tests of the search over a list of needs, and what each of them says. Assumes nothing.
+-- More of what holds: proofs/Tests.antt.
 use Rattle.std.specs.Prelude.{◌≡◌, refl, ◌↔◌, Bool, false, ◌&&◌, ℕ, ◌+◌, T, leb, ltb, eqb}
 use mathlib.Core.List.{List, Memᴰ}
 use Rattle.rules.specs.Basics.{at, imp, all, any, has}
@@ -62,9 +63,6 @@ giver-before-is needs s t x = (
   λ h. let r = simp tests at h in let a : Gives needs r.0.0 r.0.1 = r.1 in (r.0.0, rw r.2.0 at a, r.2.1),
   λ z. simp tests ((z.0, x), z.1, (refl, z.2)),
 )
-
-pub giver-before-dec : (needs : List Need) (s : ℕ) (t : List ℕ) (x : ℕ) → Dec (GiverBefore needs s t x)
-giver-before-dec needs s t x = by-test (giver_beforeb needs s t x) (giver-before-is needs s t x)
 
 -- of the takers of each job of the slot before s, A has at most one
 unfoldable pub oneb : List Need → ℕ → List ℕ → List ℕ → Bool

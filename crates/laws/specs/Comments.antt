@@ -1,5 +1,5 @@
 -- Comments: one that stands behind the limit, at the end of a file or between its fields, changes no answer while the file is not too long. Assumes nothing.
-use Rattle.std.specs.Prelude.{◌≡◌, ◌⊎◌, Bool, true, false, ◌&&◌, List, [], ◌∷◌, ◌++◌, ℕ, zero, suc, ◌+◌, ◌*◌, ◌-◌, ◌≤◌, ◌<◌, T, leb, ltb, eqb}
+use Rattle.std.specs.Prelude.{◌≡◌, ◌⊎◌, Bool, true, false, ◌&&◌, List, [], ◌++◌, ℕ, zero, suc, ◌+◌, ◌*◌, ◌-◌, ◌≤◌, ◌<◌, T, leb, ltb, eqb}
 use Rattle.std.proofs.Math.Path.{refl}
 use Rattle.std.proofs.Common.{sym, ap, subst, ◌∙◌, inl, inr, ⊎_elim, append-nil, arith}
 use Rattle.std.proofs.Math.Option.{Option, none, some}
@@ -7,7 +7,6 @@ use Rattle.std.proofs.Math.Decide.{ℕ_discrete}
 use Rattle.std.proofs.Math.ListN.{length, length-append}
 use Rattle.rules.specs.Sizes.{max_width, max_file}
 use Rattle.rules.specs.Basics.{choose, at}
-use Rattle.rules.specs.Numbers.{low, high}
 use Rattle.rules.specs.Fields.{Answer, refused, got, ask, after, field, field_end, value, whole, over_fields}
 use Rattle.rules.specs.Needs.{circle_free}
 use Rattle.rules.specs.JobFile.{JobFile, field_rows, first_row, field_row, most_boards, known_tag, in_place, length_ok, content_ok, counted, with_limit}
@@ -30,7 +29,7 @@ comment v = field 5 v
 -- ---- two readings side by side, without a comment and with it
 
 -- what both have come to: the same refusal, or the same file with header and limit, of which the second has counted one field more
-data Alike : Answer JobFile → Answer JobFile → Type 0 where
+pub data Alike : Answer JobFile → Answer JobFile → Type 0 where
   both-refuse : (q : ℕ) → Alike (refused q) (refused q)
   both_read : (f : JobFile) → 2 ≤ f.fields → Alike (got f) (got (counted f))
 
@@ -89,7 +88,7 @@ complete-alike f late =
     rw two (ask-alike _ 10 (both_read f late))
 
 -- the second reads what the first does, and a field more
-alike-reads : {r s : Answer JobFile} → Alike r s → s ≡ after r (λ f. got (counted f))
+pub alike-reads : {r s : Answer JobFile} → Alike r s → s ≡ after r (λ f. got (counted f))
 unfolding after
 alike-reads (both-refuse q) = refl
 alike-reads (both_read f late) = refl
@@ -126,7 +125,7 @@ plan_table-counted f =
     same (some t) = refl
 
 -- files that are read alike get the same answers
-same-answers : (bs zs : List ℕ) → Alike (read_file bs) (read_file zs) → SameAnswers zs bs
+pub same-answers : (bs zs : List ℕ) → Alike (read_file bs) (read_file zs) → SameAnswers zs bs
 unfolding plan check list_implied implied_in most_boards counted
 same-answers bs zs h = record {
   planned = λ work table. rw (alike-after plan_table plan_table-counted h) refl;
@@ -257,30 +256,8 @@ module _ (xs ys v : List ℕ) (fields : Fields xs) (g : JobFile) (read : read_fi
 
 -- a readable file, and a comment at its end, of any bytes or none, as long as there is room
 module _ (file v : List ℕ) (f : JobFile) (read : read_file file ≡ got f) (short : length (file ++ comment v) ≤ max_file) where
-  alike-last : Alike (read_file file) (read_file (file ++ comment v))
+  pub alike-last : Alike (read_file file) (read_file (file ++ comment v))
   alike-last = rw (append-nil file, append-nil (comment v)) at (parts-alike file [] v (readable-fields file f read) (rw (append-nil (comment v)) short) late)
     where
       late : (p : JobFile) → read_from file 0 no_fields ≡ got p → 2 ≤ p.fields
       late p e = unfold read_file complete after in (simp tests at (ask-got _ 10 _ f (rw e at (ask-got (leb (length file) max_file) 2 _ f read).1)).0).0
-
-  -- it is readable, and says what it says without the comment, with a field more
-  pub comment-read : read_file (file ++ comment v) ≡ got (counted f)
-  unfolding after
-  comment-read = alike-reads alike-last ∙ rw read refl
-
-  -- and gets the same answers
-  pub comment-same : SameAnswers (file ++ comment v) file
-  comment-same = same-answers file (file ++ comment v) alike-last
-
-  -- the planner's number and size, and every byte of both buffers
-  pub comment-planned : (work table : List ℕ) → plan (file ++ comment v) work table ≡ plan file work table
-  comment-planned = comment-same.planned
-
-  -- the check's answer for every table
-  pub comment-checked : (table : List ℕ) → check (file ++ comment v) table ≡ check file table
-  comment-checked = comment-same.checked
-
--- "A sound file with a comment of length 0 at its end: as without it"
-pub comment-of-none : (file : List ℕ) (f : JobFile) → read_file file ≡ got f → length file + 3 ≤ max_file → SameAnswers (file ++ 5 ∷ 0 ∷ 0 ∷ []) file
-unfolding field low high
-comment-of-none file f read short = comment-same file [] f read (omega (arith, short, length-append file (comment [])))

@@ -37,6 +37,7 @@ after_same (got a) f g h = h a refl
 pub ask-yes : {A : Type 0} (b : Bool) (q : ℕ) (r : Answer A) → T b → ask b q r ≡ r
 unfolding ask
 ask-yes true q r t = refl
+ask-yes {A = A} false q r t = elim t [ ]
 
 pub ask-no : {A : Type 0} (b : Bool) (q : ℕ) (r : Answer A) → (T b → ⊥) → ask b q r ≡ refused q
 unfolding ask

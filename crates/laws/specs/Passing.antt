@@ -19,7 +19,7 @@ use Rattle.laws.specs.Circles.{circle-free}
 use Rattle.laws.specs.Table.{decode-encode}
 use Rattle.laws.specs.Decoded.{encode-decode}
 use Rattle.laws.specs.Check.{Labelled, labelled-is, TableFor, table-writable, q16, check-asks, check-exactly}
-use Rattle.laws.specs.Refusals.{Refusal, asked-number, decode-number, rows-refusal, check-passes}
+use Rattle.laws.specs.Refusals.{Refusal, asked-number, decode-number, rows-refusal}
 
 -- "The check asks 2 to 11 of the job file": a table passes only for a readable file without a circle
 pub passed-file : (file : List ℕ) → Bytes file → (table : List ℕ) (t : Table) → check file table ≡ got t
@@ -46,14 +46,6 @@ module _ (file : List ℕ) (bytes : Bytes file) (f : JobFile) (read : read_file 
       as_many : TableFor f t → T (eqb (length f.jobs) (length t.rows))
       as_many k = (T-eqb (length f.jobs) (length t.rows)).1 (sym k.rows_are)
 
-  -- "the check passes a table exactly when its starts satisfy P within the limit" and its boards and fields keep the rules: the number is 0
-  -- exactly where the table is the bytes of one with a row for each job, and with all that `TableFor` says of it
-  pub check-zero : (number_of (check file table) ≡ 0) ↔ ((t : Table) × (table ≡ encode t) × TableFor f t)
-  check-zero = (
-    λ z. let w = (check-passes file table).0 z in let r = (check-reads w.0).0 w.1 in (w.0, r.0, r.1),
-    λ w. (check-passes file table).1 (w.0, (check-reads w.0).1 (w.1, w.2)),
-  )
-
 -- what the number 0 says of a job file and a table: the file is readable and without a circle, and the table is the bytes of a table for it
 pub record Passing (file table : List ℕ) : Type 0 where
   pub says : JobFile
@@ -62,16 +54,6 @@ pub record Passing (file table : List ℕ) : Type 0 where
   pub read_as : Table
   pub bytes-are : table ≡ encode read_as
   pub table-for : TableFor says read_as
-
--- of any file and any table of bytes
-pub passes-exactly : (file : List ℕ) → Bytes file → (table : List ℕ) → Bytes table → (number_of (check file table) ≡ 0) ↔ Passing file table
-passes-exactly file bytes table table-bytes = (
-  λ z. let w = (check-passes file table).0 z in
-      let f = passed-file file bytes table w.0 w.1 in
-      let r = (check-reads file bytes f.0 f.1 f.2 table table-bytes w.0).0 w.1 in
-      record { says = f.0; read = f.1; no-circle = f.2; read_as = w.0; bytes-are = r.0; table-for = r.1 },
-  λ p. (check-zero file bytes p.says p.read p.no-circle table table-bytes).1 (p.read_as, p.bytes-are, p.table-for),
-)
 
 -- ---- 15
 

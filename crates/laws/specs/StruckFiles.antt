@@ -1,24 +1,19 @@
 -- Needs that follow from others, struck from a job file: the bytes that are left say the same but for these needs, and windows, width, and the answers of
 -- planner and check stay (document 02, request 5). Assumes nothing.
-use Rattle.std.specs.Prelude.{◌≡◌, ◌↔◌, Bool, not, ℕ, suc, ◌-◌, ◌<◌, min, length, T, leb, eqb, pos, ◌-ℤ◌}
-use Rattle.std.proofs.Math.Path.{refl, ap, fun_ext, subst}
+use Rattle.std.specs.Prelude.{◌≡◌, ◌↔◌, Bool, not, ℕ, suc, ◌<◌, min, length, T, eqb, pos, ◌-ℤ◌}
+use Rattle.std.proofs.Math.Path.{refl, ap, subst}
 use Rattle.std.proofs.Common.{sym, ◌∙◌, arith}
 use mathlib.Core.List.{List, [], ◌∷◌, ◌++◌, append-nil}
-use Rattle.std.proofs.Math.Option.{Option, none, some}
-use Rattle.rules.specs.Sizes.{max_width}
 use Rattle.rules.specs.Basics.{at, filter}
 use Rattle.rules.specs.Numbers.{Bytes}
-use Rattle.rules.specs.Fields.{Answer, got, ask, after, value}
+use Rattle.rules.specs.Fields.{got, after, value}
 use Rattle.rules.specs.Needs.{Need, Gives, givesb, insert_need, Circle, circle_free}
-use Rattle.rules.specs.JobFile.{JobFile, most_boards, counted, with_limit, with_sockets, with_job, with_need, job_of, is_need, need_of}
+use Rattle.rules.specs.JobFile.{JobFile, counted, with_limit, with_sockets, with_job, with_need, job_of, is_need, need_of}
 use Rattle.rules.specs.JobFile.{add_need, add_sockets, add_field, no_fields, complete, read_file}
-use Rattle.rules.specs.Windows.{release, tail, width}
-use Rattle.rules.specs.Preference.{best}
-use Rattle.rules.specs.Boards.{runsb}
-use Rattle.rules.specs.Table.{Table, starts, boards_of, decode}
-use Rattle.rules.specs.Answers.{table_of, tabled, plan_table, plan, check}
+use Rattle.rules.specs.Windows.{release, tail}
+use Rattle.rules.specs.Answers.{plan, check}
 use Rattle.rules.specs.Implied.{implied_needs, implied_in, struck, need_at, strike}
-use Rattle.laws.specs.Tests.{T_and, T_not, tests, by-test, bool-ext, by-choice, choose_yes, choose_no}
+use Rattle.laws.specs.Tests.{T_and, T_not, tests, by-test, by-choice, choose_yes, choose_no}
 use Rattle.laws.specs.Lists.{filter-mem, filter-mem⁻¹, filter-append}
 use Rattle.laws.specs.Fields.{got_same, ask-got, after-got, ask-yes, GotBeside, got-beside, ask-beside, choose-beside}
 use Rattle.laws.specs.JobFile.{Readable, needs-in, place_same, readable}
@@ -26,14 +21,13 @@ use Rattle.laws.specs.Program.{gives-is}
 use Rattle.laws.specs.Needs.{insert-known, insert-new}
 use Rattle.laws.specs.Circles.{circle-free}
 use Rattle.laws.specs.Width.{file_width}
-use Rattle.laws.specs.Best.{best-is}
 use Rattle.laws.specs.FileParts.{ask_field, ask_field-beside, need-asked}
 use Rattle.laws.specs.FieldsBut.{fields_but-bytes, read_file-but}
-use Rattle.laws.specs.Struck.{Shorter, struck-shorter, shorter-in, shorter-free, same-release, same-deadline, same_width, same-best, same-boards}
-use Rattle.laws.specs.Struck.{same-needs-kept, struck-none}
+use Rattle.laws.specs.Struck.{Shorter, struck-shorter, shorter-in, shorter-free}
+use Rattle.laws.specs.Struck.{struck-none}
 
 -- s with k fields, and ds for its needs
-abbrev with_needs : ℕ → List Need → JobFile → JobFile
+abbrev pub with_needs : ℕ → List Need → JobFile → JobFile
 with_needs k ds s = record { fields = k; limit = s.limit; sockets = s.sockets; jobs = s.jobs; needs = ds }
 
 -- ---- two readings, with all needs and with those that pass p
@@ -171,51 +165,16 @@ module _ {f : JobFile} (ok : Readable f) (free : ¬ (Circle f.needs)) (k : ℕ) 
   abbrev es : List Need
   es = struck (implied_needs n f.needs) f.needs
 
-  abbrev left : JobFile
-  left = with_needs k es f
-
   -- the others have chains beside them
-  shorter : Shorter f.needs es
+  pub shorter : Shorter f.needs es
   shorter = struck-shorter (needs-in f ok) free
 
   -- it has no circle: question 11 is answered yes
-  left-free : T (circle_free n es)
+  pub left-free : T (circle_free n es)
   left-free = (circle-free n es (shorter-in (needs-in f ok) free shorter)).1 (shorter-free (needs-in f ok) free shorter)
 
-  -- as before
-  same-circles : circle_free n es ≡ circle_free n f.needs
-  same-circles = bool-ext _ _ (λ _. (circle-free n f.needs (needs-in f ok)).1 free) (λ _. left-free)
-
-  -- the best list gets the same table
-  same-table : (o : Option (List ℕ)) → best n (runsb n f.needs (most_boards f)) f.limit ≡ o → tabled left o ≡ tabled f o
-  unfolding tabled table_of
-  same-table none e = refl
-  same-table (some t) e =
-      let kept = (rw e at (best-is n f.needs (most_boards f) f.limit)).0.kept in
-      rw (same-boards (needs-in f ok) free shorter t kept) refl
-
-  -- questions 11 to 13 have the same answers, and the same table is planned
-  same-planned : plan_table left ≡ plan_table f
-  unfolding plan_table most_boards
-  same-planned =
-      rw (same-circles, same_width (needs-in f ok) free shorter f.limit, same-best (needs-in f ok) free shorter (most_boards f) f.limit)
-      (ap (λ (x : Answer Table). ask (circle_free n f.needs) 11 (ask (leb (width n f.needs f.limit) max_width) 12 x))
-      (same-table (best n (runsb n f.needs (most_boards f)) f.limit) refl))
-
-  -- so all that is said above stays
-  unchanged : (bs zs : List ℕ) → read_file bs ≡ got f → read_file zs ≡ got left → Unchanged bs zs f left
-  unfolding plan check after most_boards
-  unchanged bs zs whole struck = record {
-    releases = same-release (needs-in f ok) free shorter;
-    deadlines = same-deadline (needs-in f ok) free shorter;
-    width = same_width (needs-in f ok) free shorter f.limit;
-    planned = λ work table. rw (whole, struck, same-planned) refl;
-    checked = λ table. rw (whole, struck, same-circles) (ap (λ (r : Table → Answer Table). ask (circle_free n f.needs) 11 (after (decode (eqb n) table) r))
-        (fun_ext (λ T. rw (same-needs-kept (needs-in f ok) free shorter (starts T) (boards_of T)) refl)));
-  }
-
 -- that is what the struck file says
-struck-is : {ds : List Need} {f g : JobFile} → StruckFrom ds f g → g ≡ with_needs g.fields (struck ds f.needs) f
+pub struck-is : {ds : List Need} {f g : JobFile} → StruckFrom ds f g → g ≡ with_needs g.fields (struck ds f.needs) f
 struck-is {ds} {f} {g} w = λ i. record { fields = g.fields; limit = w.limit i; sockets = w.sockets i; jobs = w.jobs i; needs = w.needs i }
 
 -- ---- "Striking all of them from a file without a circle"
@@ -224,13 +183,6 @@ module _ (bs : List ℕ) (bytes : Bytes bs) (f : JobFile) (read : read_file bs �
   -- the needs that follow from others
   abbrev ds : List Need
   ds = implied_needs (length f.jobs) f.needs
-
-  -- "shall leave every window, the width, and the planner's starts and boards or its 12 or 13 unchanged"
-  pub strike-unchanged : (g : JobFile) × (read_file (strike ds bs) ≡ got g) × StruckFrom ds f g × Unchanged bs (strike ds bs) f g
-  strike-unchanged =
-      let (g, says, w) = strike-read ds bs bytes f read in
-      let same = unchanged (readable bs bytes f read) free g.fields bs (strike ds bs) read (says ∙ ap got (struck-is w)) in
-      (g, says, w, subst (Unchanged bs (strike ds bs) f) (sym (struck-is w)) same)
 
   -- once is enough: of the needs of the struck file none follows from others
   pub strike-none : implied_in (strike ds bs) ≡ got []
@@ -256,29 +208,6 @@ listed-is bs bytes ds = (to, from)
     from : (f : JobFile) × (read_file bs ≡ got f) × ¬ (Circle f.needs) × (ds ≡ implied_needs (length f.jobs) f.needs) → implied_in bs ≡ got ds
     from (f, read, free, same) =
         rw read (ask-yes _ 11 _ ((circle-free (length f.jobs) f.needs (needs-in f (readable bs bytes f read))).1 free) ∙ ap got (sym same))
-
--- the same of what is listed: the fields of these needs are taken out
-module _ (bs : List ℕ) (bytes : Bytes bs) (ds : List Need) (e : implied_in bs ≡ got ds) where
-  -- all that is said above stays
-  pub listed-unchanged : (f : JobFile) × (g : JobFile) × (read_file bs ≡ got f) × (read_file (strike ds bs) ≡ got g) × StruckFrom ds f g
-      × Unchanged bs (strike ds bs) f g
-  listed-unchanged =
-      let (f, read, free, same) = (listed-is bs bytes ds).0 e in
-      let (g, says, w, stays) = strike-unchanged bs bytes f read free in (
-        f,
-        g,
-        read,
-        subst (λ (es : List Need). read_file (strike es bs) ≡ got g) (sym same) says,
-        subst (λ (es : List Need). StruckFrom es f g) (sym same) w,
-        subst (λ (es : List Need). Unchanged bs (strike es bs) f g) (sym same) stays,
-      )
-
-  -- so the planner leaves the same bytes, and the check answers the same
-  pub struck-planned : (work table : List ℕ) → plan (strike ds bs) work table ≡ plan bs work table
-  struck-planned = let (f, g, read, says, w, stays) = listed-unchanged in stays.planned
-
-  pub struck-checked : (table : List ℕ) → check (strike ds bs) table ≡ check bs table
-  struck-checked = let (f, g, read, says, w, stays) = listed-unchanged in stays.checked
 
 -- the struck file is one of bytes, so that all laws of files speak of it
 pub strike-bytes : (ds : List Need) (bs : List ℕ) → Bytes bs → Bytes (strike ds bs)

@@ -122,6 +122,7 @@ by-choice P false f g = g (λ h. h)
 pub choose_yes : {A : Type 0} (b : Bool) (x y : A) → T b → choose b x y ≡ x
 unfolding choose
 choose_yes true x y t = refl
+choose_yes {A = A} false x y t = elim t [ ]
 
 pub choose_no : {A : Type 0} (b : Bool) (x y : A) → (T b → ⊥) → choose b x y ≡ y
 unfolding choose

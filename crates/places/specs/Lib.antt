@@ -7,10 +7,8 @@ pub mod Slot
 pub mod Model
 pub mod Building
 pub mod Fit
-pub mod OneSet
 pub mod Memo
 pub mod Steps
 pub mod Assign
 pub mod OfFile
 pub mod Work
-pub mod Branching

@@ -1,8 +1,9 @@
 -- One slot of the search over places: its candidates, the sets that it tries, and what each of them is by membership. Assumes nothing.
+-- More of what holds: proofs/Slot.antt.
 use Rattle.std.specs.Prelude.{◌≡◌, ◌⊎◌, ◌↔◌, Bool, ◌&&◌, ◌||◌, ℕ, ◌+◌, ◌^◌, ◌≤◌, ◌<◌, leb, length}
 use Rattle.std.proofs.Math.Path.{refl}
-use Rattle.std.proofs.Common.{sym, ap, ◌∙◌, ⊎_elim, arith, eq-eqb, eqb-true}
-use Rattle.std.proofs.Math.Logic.{Iff·trans}
+use Rattle.std.proofs.Common.{sym, ◌∙◌, ⊎_elim, arith, eq-eqb, eqb-true}
+use mathlib.Core.Logic.Iff
 use Rattle.std.proofs.Math.Bool.{true, false, and-eq-true_iff, or-false, or_assoc}
 use Rattle.std.proofs.lemmas.Bool.{false≢true}
 use mathlib.Core.List.{List, [], ◌∷◌, Memᴰ}
@@ -10,11 +11,11 @@ use Rattle.std.proofs.Math.Dec.{eqb}
 use Rattle.rules.specs.Basics.{choose, any}
 use Rattle.laws.specs.Tests.{T-any, T_true, T-leb, by-choice}
 use Rattle.jobset.specs.declared.Set.{Set}
-use Rattle.jobset.specs.Sets.{member, empty, with, union, minus, intersection, is_subset, is_empty, is_one, size, members, Subset}
-use Rattle.jobset.specs.Membership.{member-empty, member-with, member_union, in-union, in-minus}
+use Rattle.jobset.specs.Sets.{member, empty, with, union, minus, intersection, is_subset, is_empty, is_one, size, members}
+use Rattle.jobset.specs.Membership.{member-empty, member-with, member_union, in-minus}
 use Rattle.jobset.specs.Members.{in_members}
 use Rattle.places.specs.Tables.{Tables}
-use Rattle.places.specs.Rows.{by_number, in_row, chosen-in, in-places, picks, tried_below, tried-number}
+use Rattle.places.specs.Rows.{by_number, in_row, tried_below}
 
 -- the candidates of a slot: forced and tied are places of the slot, tying are places of the slot before
 pub record Candidates : Type 0 where
@@ -161,13 +162,13 @@ module _ (done ran : Set) where
     -- the forced places: free, with all givers done and none in the slot before
     pub in-forced : (x : ℕ) → (member (candidates_of givers free done ran).forced x ≡ true)
         ↔ ((x < 64) × (member free x ≡ true) × (is_forced done ran (givers x) ≡ true))
-    in-forced x = Iff·trans (in-sorted givers (λ c. c.forced) (λ i g x. is_forced done ran g && eqb x i) sort-forced free x (member-empty x))
+    in-forced x = Iff.trans (in-sorted givers (λ c. c.forced) (λ i g x. is_forced done ran g && eqb x i) sort-forced free x (member-empty x))
         (itself (is_forced done ran) x)
 
     -- the tied places: free, with all givers done and exactly one in the slot before
     pub in-tied : (x : ℕ) → (member (candidates_of givers free done ran).tied x ≡ true)
         ↔ ((x < 64) × (member free x ≡ true) × (is_tied done ran (givers x) ≡ true))
-    in-tied x = Iff·trans (in-sorted givers (λ c. c.tied) (λ i g x. is_tied done ran g && eqb x i) sort-tied free x (member-empty x))
+    in-tied x = Iff.trans (in-sorted givers (λ c. c.tied) (λ i g x. is_tied done ran g && eqb x i) sort-tied free x (member-empty x))
         (itself (is_tied done ran) x)
 
     -- the tying places: the givers in the slot before of the tied ones
@@ -209,16 +210,6 @@ candidates-held A s done ran p o =
 pub in-row-at : (A : Tables) (s : ℕ) (c : Candidates) (p : ℕ) → Memᴰ p (row_at A s c) ↔ ((p < 64) × (member (able_of c) p ≡ true))
 unfolding row_at
 in-row-at A s c p = let w = in_row (A.who s) (members (able_of c)) p in let v = in_members (able_of c) p in (λ m. v.0 (w.0 m), λ z. w.1 (v.1 z))
-
-pub tries-held : (A : Tables) (cap s : ℕ) (done ran S : Set) → Memᴰ S (tries_at A cap s done ran) → Subset S (A.held s)
-unfolding tries_at Subset able_of
-tries-held A cap s done ran S w p m =
-    let r = tried-number (near_at A s ran) (row_at A s c) (most_of cap c) (2 ^ length (row_at A s c)) S w in
-    let z = (in-places (picks (row_at A s c) r.number) p).0 (ap (λ (X : Set). member X p) (sym r.set_is) ∙ m) in
-    candidates-held A s done ran p ((in-union c.forced c.tied p).0 ((in-row-at A s c p).0 (chosen-in (row_at A s c) (record { bits = r.number }) p z)).1)
-  where
-    c : Candidates
-    c = candidates_at A s done ran
 
 -- the cap, or as many as fit
 pub most-is : (cap : ℕ) (c : Candidates) → (most_of cap c ≤ cap) × (most_of cap c ≤ fit_of c)

@@ -18,7 +18,7 @@ use Rattle.jobset.specs.Tests.{present}
 use Rattle.dominance.specs.Tries.{or_else, first}
 use Rattle.dominance.specs.States.{State, Good, placed-best, start, start-state, start-good}
 use Rattle.dominance.specs.Placing.{place, Spot, now, earlier, waits, spot}
-use Rattle.dominance.specs.Maximal.{maximal-slot}
+use Rattle.dominance.proofs.Maximal.{maximal-slot}
 use Rattle.places.specs.Seats.{OfPlaces, On, on-iff, on-empty, on-union, jobs_of, set_of, set-of-is, set-of-jobs}
 use Rattle.places.specs.Windows.{Windows, held, in_held, Seats}
 use Rattle.places.specs.Slot.{tries_at}

@@ -20,7 +20,8 @@ use Rattle.laws.specs.Width.{window, window-is, width-window}
 use Rattle.dominance.specs.Count.{AtLeast}
 use Rattle.places.specs.Windows.{holds_slot, held, Narrow, Room}
 use Rattle.places.specs.OfFile.{file_windows}
-use Rattle.places.specs.Assign.{Entering, Enough, assigned-seats, narrow-enough, seats-eight}
+use Rattle.places.specs.Assign.{Entering, Enough}
+use Rattle.places.proofs.Assign.{assigned-seats, narrow-enough, seats-eight}
 use Rattle.shortest.specs.Given.{Bounds}
 
 module _ (n : ℕ) (needs : List Need) (limit : ℕ) (needs-in : NeedsIn n needs) where

@@ -22,7 +22,8 @@ use Rattle.dominance.specs.Placing.{place, length-place, place_out, place_in}
 use Rattle.places.specs.Seats.{OfPlaces, jobs_of, in-jobs}
 use Rattle.places.specs.Windows.{Windows, held, in_held, Seats}
 use Rattle.places.specs.Tables.{Tables, Shows}
-use Rattle.places.specs.Slot.{tries_at, tries-held}
+use Rattle.places.specs.Slot.{tries_at}
+use Rattle.places.proofs.Slot.{tries-held}
 use Rattle.places.specs.Model.{Plan, no_plan, slot_then, try_all, done_after, find, placed}
 
 -- the plan of C slots with at most `cap` jobs a slot

@@ -21,15 +21,17 @@ use Rattle.jobset.specs.Tests.{present}
 use Rattle.dominance.specs.Tries.{Sooner}
 use Rattle.dominance.specs.States.{Instance, AtMost, Legal}
 use Rattle.dominance.specs.Maximal.{Maximal, TriesMaximal}
-use Rattle.dominance.specs.Exact.{Forced, Tied, legal, allow, forced-or-tied, maximal-parts, maximal-exact}
-use Rattle.dominance.specs.Room.{Tying, parts-fit, full-only}
+use Rattle.dominance.specs.Exact.{Forced, Tied}
+use Rattle.dominance.proofs.Exact.{legal, allow, forced-or-tied, maximal-parts, maximal-exact}
+use Rattle.dominance.specs.Room.{Tying}
+use Rattle.dominance.proofs.Room.{parts-fit, full-only}
 use Rattle.places.specs.Seats.{Apart, OfPlaces, On, on-union, at_place, jobs_of, in-jobs, jobs-by, set_of, set-of-is}
 use Rattle.places.specs.Windows.{Windows, held, held_before, apart-hold, low-held-before}
 use Rattle.places.specs.Rows.{Sorted, row-distinct, row-sorted, at-sorted, Pick, in-chosen, chosen-in, chosen-distinct, bit-low, number_for, number-for-lt}
 use Rattle.places.specs.Rows.{chosen-number, places_of, in-places, Loose, is_try, is-try, picks, tried_below, tried-number, number-tried, tried-ordered}
 use Rattle.places.specs.Slot.{Candidates, candidates_at, near_at, able_of, row_at, in-row-at, fit_of, most_of, most-is, tries_at}
 use Rattle.places.specs.Fit.{members-distinct, size_is, fit-most}
-use Rattle.places.specs.OneSet.{ties-at}
+use Rattle.places.proofs.OneSet.{ties-at}
 use Rattle.shortest.specs.Given.{Given, within, At, InTime}
 use Rattle.shortest.specs.InSlot.{in-H, near-O, near-is, is-forced, is_tied_lem, is-tying}
 

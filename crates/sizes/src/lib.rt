@@ -1,4 +1,5 @@
 // The sizes that documents 01 and 02 set, once for all code (for the definitions: rules, Sizes), and those that follow from them.
+#![tactic(auto)]
 
 // The most jobs of a file (question 7).
 pub const MAX_JOBS: usize = 400;

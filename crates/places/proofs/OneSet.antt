@@ -12,7 +12,8 @@ use Rattle.jobset.specs.Sets.{member, one, minus, intersection, is_subset, is_em
 use Rattle.jobset.specs.Membership.{in_one, in-union, in-intersection}
 use Rattle.jobset.specs.Inclusion.{subset-antisym}
 use Rattle.jobset.specs.OneMember.{is_one_lem}
-use Rattle.places.specs.Rows.{empty-says, row-distinct, places_of, in-places, Loose, whole_row, tried_below}
+use Rattle.places.specs.Rows.{empty-says, row-distinct, places_of, in-places, Loose, tried_below}
+use Rattle.places.proofs.Rows.{whole_row}
 use Rattle.places.specs.Tables.{Tables}
 use Rattle.places.specs.Slot.{Candidates, is_forced, is_tied, carried, candidates_at, near_at, able_of, row_at, fit_of, most_of, tries_at, in-forced, in-tied}
 use Rattle.places.specs.Slot.{Tying, in-tying}

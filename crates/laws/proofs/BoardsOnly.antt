@@ -7,7 +7,7 @@ use Rattle.rules.specs.Needs.{Need, Gives, NeedsIn}
 use Rattle.rules.specs.Program.{Kept}
 use Rattle.rules.specs.Boards.{boards}
 use Rattle.laws.specs.BoardWords.{Inherits, GivenBoards, dec-inherits, SameFirst, lowest-same, lowest-one}
-use Rattle.laws.specs.BoardLaws.{boards-given}
+use Rattle.laws.proofs.BoardLaws.{boards-given}
 
 module _ (n : ℕ) (needs : List Need) (needs-in : NeedsIn n needs) (t : List ℕ) where
   module _ (b d : List ℕ) (f : GivenBoards n needs t b) (h : GivenBoards n needs t d) where

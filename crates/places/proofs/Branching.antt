@@ -30,7 +30,7 @@ use Rattle.places.specs.Slot.{Candidates, is_forced, carried, candidates_at, nea
 use Rattle.places.specs.Slot.{candidates-held}
 use Rattle.places.specs.Slot.{in-row-at, most-is}
 use Rattle.places.specs.Fit.{members-distinct, size_is, Ties, fit-most}
-use Rattle.places.specs.OneSet.{ties-at}
+use Rattle.places.proofs.OneSet.{ties-at}
 
 -- ---- the sets tried, by recursion over the row
 

@@ -1,0 +1,20 @@
+-- The theorems that depend on what a must-fail edit breaks, in the order of specs/.
+pub mod BoardSlots
+pub mod BoardLaws
+pub mod BoardsOnly
+pub mod Check
+pub mod Refusals
+pub mod Planned
+pub mod Sockets
+pub mod Comments
+pub mod Demands
+pub mod States
+pub mod Extras
+pub mod ExtraFiles
+pub mod Implied
+pub mod Struck
+pub mod StruckFiles
+pub mod RepeatedNeeds
+pub mod RepeatedAnswers
+pub mod Passing
+pub mod Lookup
