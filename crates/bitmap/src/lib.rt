@@ -1,4 +1,6 @@
 // A bitmap in a lent slice of bytes: mark k is binary digit k % 8 of byte k / 8.
+#![tactic(auto)]
+
 ghost use Rattle.std.specs.Prelude.{◌≡◌, ◌*◌, ◌<◌, ◌≤◌, length};
 ghost use Rattle.bitmap.specs.Marks.{is_marked, with_mark, cleared};
 

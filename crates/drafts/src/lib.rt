@@ -1,4 +1,6 @@
 // Small job files for test programs, written at the front of a lent array. Each job has the name `a` and level 0.
+#![tactic(auto)]
+
 ghost use Rattle.std.specs.Prelude.{◌≡◌, ◌+◌, ◌-◌, ◌*◌, ◌/◌, ◌<◌, ◌≤◌, take};
 
 use sizes::TABLE_BYTES;

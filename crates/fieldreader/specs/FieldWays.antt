@@ -45,7 +45,7 @@ module _ (bs : List ℕ) (a k : ℕ) where
       module _ (r : FieldRow) (row : RowOf (at bs a) r) where
         pub unknown-tag : r.tag ≢ at bs a → Refused 4 ≡ field_at bs a k
         unfolding field_at
-        unknown-tag n = sym (choose_yes (whole bs a) _ _ is_whole ∙ choose_no (known_tag (at bs a)) _ _ (λ t. n (row.own_val t)))
+        unknown-tag n = sym (choose_yes (whole bs a) _ _ is_whole ∙ choose_no (known_tag (at bs a)) _ _ (λ t. n (row.own t)))
 
         module _ (own : r.tag ≡ at bs a) where
           known : T (known_tag (at bs a))

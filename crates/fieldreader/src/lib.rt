@@ -1,4 +1,6 @@
 // The field reader of a job file: questions 3 to 5 of document 01, and 6 of a field's length.
+#![tactic(auto)]
+
 ghost use Rattle.std.specs.Prelude.{◌≡◌, ◌<◌, length};
 ghost use Rattle.rules.specs.JobFile.{in_place};
 ghost use Rattle.fieldreader.specs.Reader.{RowOf, field_at, refusal_of};
@@ -6,7 +8,7 @@ ghost use Rattle.fieldreader.specs.Reader.{RowOf, field_at, refusal_of};
 use fields::wide;
 
 // A row of the table of fields: a tag with its shortest and longest value.
-#[derive(Drop)]
+#[derive(Clone, Copy)]
 pub struct FieldRow {
     pub tag: u8,
     pub least: u16,
@@ -53,7 +55,7 @@ pub const ROWS: [FieldRow; 7] = [
 ];
 
 // A field, its value from start to before end; or the number of the question that said no.
-#[derive(Drop)]
+#[derive(Clone, Copy)]
 pub enum FieldAnswer {
     Field { tag: u8, start: usize, end: usize },
     Refused(u8),

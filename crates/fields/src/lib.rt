@@ -1,4 +1,6 @@
 // Numbers, fields and names of a file: a field is a one-byte tag, a two-byte length and that many value bytes.
+#![tactic(auto)]
+
 ghost use Rattle.std.specs.Prelude.{◌≡◌, ◌+◌, ◌<◌, ◌≤◌, max, length, drop, T};
 ghost use Rattle.rules.specs.Basics.{at, all};
 ghost use Rattle.rules.specs.Numbers.{word};

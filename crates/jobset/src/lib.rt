@@ -1,10 +1,12 @@
 // A set of numbers below 64, one bit of a u64 each: i is a member where digit i of the number is 1. It is a set of places of a slot, of ranks of
 // its jobs, of boards, or of the jobs that one word of a row of needs stands for.
 // Callers use the laws of membership in specs/ and never the bits.
+#![tactic(auto)]
+
 ghost use Rattle.std.specs.Prelude.{◌≡◌, false, ◌<◌};
 ghost use Rattle.jobset.specs.Sets.{member, one, with, without, union, minus, intersection, is_subset, is_empty, is_one, size, lowest};
 
-#[derive(Drop)]
+#[derive(Clone, Copy)]
 pub struct Set {
     pub bits: u64,
 }

@@ -29,6 +29,7 @@ rounded-above w h = go (ltb w 32768) (lt→ltb w 32768 h)
   where
     go : (b : Bool) → T b → unsigned (centimetres (choose b (pos w) (negsuc (65535 - w)))) ≡ round_half_even w
     go true t = refl
+    go false t = elim t [ ]
 
 -- and of one below zero
 pub rounded-below : (w : ℕ) → 32768 ≤ w → w < 65536 → rounded w ≡ twos_complement (round_half_even (65536 - w))

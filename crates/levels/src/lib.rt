@@ -1,4 +1,6 @@
 // Levels: millimetres to centimetres on two-byte numbers in two's complement.
+#![tactic(auto)]
+
 ghost use Rattle.std.specs.Prelude.{◌≡◌};
 ghost use Rattle.rules.specs.Numbers.{round_half_even};
 ghost use Rattle.levels.specs.Levels.{twos_complement, rounded};

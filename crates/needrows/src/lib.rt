@@ -1,6 +1,8 @@
 // The needs of a job file as rows of bits in a lent slice of bytes: the row of a job has its takers, ROW_BYTES bytes for each job. Mark
 // ROW_BITS * giver + taker (crate bitmap) is set where the giver gives to the taker. A row is read a word at a time, each word a set:
 // member j of word w is taker WORD_BITS * w + j. Jobs are counted from 0.
+#![tactic(auto)]
+
 ghost use Rattle.std.specs.Prelude.{◌≡◌, ◌+◌, ◌*◌, ◌≤◌, ◌<◌, length};
 ghost use Rattle.bitmap.specs.Marks.{with_mark};
 ghost use Rattle.needrows.specs.Rows.{row_bytes, row_bits, word_bytes, words_for, without_row, two_at, four_at, word_at};

@@ -13,7 +13,7 @@ fn put_head(jobs: usize, file: &mut [u8])
     ensures { file.new ≡ head_bytes jobs ++ drop 8 file.old }
 {
     let head = [1, 1, 0, 1, 2, 1, 0, jobs as u8];
-    bytes::copy(&head, file);
+    file[..8].copy_from_slice(&head);
 }
 
 // A job, at the front: level 0, and a letter for its name.
@@ -22,7 +22,7 @@ fn put_job(job: usize, file: &mut [u8])
     ensures { file.new ≡ job_field job ++ drop 6 file.old }
 {
     let field = [3, 3, 0, 0, 0, b'a' + (job as u8)];
-    bytes::copy(&field, file);
+    file[..6].copy_from_slice(&field);
 }
 
 // So many jobs, behind header and limit; gives the byte behind them.
@@ -47,7 +47,7 @@ fn put_need(giver: usize, taker: usize, file: &mut [u8])
     ensures { file.new ≡ need_field (giver, taker) ++ drop 5 file.old }
 {
     let field = [4, 2, 0, (giver + 1) as u8, (taker + 1) as u8];
-    bytes::copy(&field, file);
+    file[..5].copy_from_slice(&field);
 }
 
 // The needs of a number, from byte `first` on; gives the byte behind them.

@@ -1,4 +1,6 @@
 // The rows of a table: question 14.
+#![tactic(auto)]
+
 ghost use Rattle.std.specs.Prelude.{◌≡◌, false, ◌<◌, length};
 ghost use Rattle.rules.specs.Sizes.{max_jobs};
 ghost use Rattle.rules.specs.Table.{head_ok};
@@ -8,14 +10,14 @@ use fields::{is_whole, name_ok, value_at, wide};
 use sizes::MAX_JOBS;
 
 // A row that ends before offset `end`; or none.
-#[derive(Drop)]
+#[derive(Clone, Copy)]
 pub enum RowAnswer {
     Row { end: usize },
     Refused,
 }
 
 // What a table says, where ok: its slots and boards, and how many rows it has.
-#[derive(Drop)]
+#[derive(Clone, Copy)]
 pub struct Rows {
     pub ok: bool,
     pub slots: usize,

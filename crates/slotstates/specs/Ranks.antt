@@ -15,7 +15,8 @@ use Rattle.jobset.specs.declared.Set.{Set}
 use Rattle.jobset.specs.Sets.{digit, member, empty, with}
 use Rattle.jobset.specs.Bounds.{with-lt, member-lt}
 use Rattle.jobset.specs.Tests.{absent, present}
-use Rattle.threes.specs.Threes.{threes_to, threes, number_of, threes-with}
+use Rattle.threes.specs.Threes.{threes_to, threes, number_of}
+use Rattle.threes.proofs.Threes.{threes-with}
 use Rattle.slotstates.specs.declared.Ranks.{Ranks}
 
 -- ---- what the functions give

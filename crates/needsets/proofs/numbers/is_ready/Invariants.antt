@@ -1,0 +1,11 @@
+use mathlib.Core.Bool.{true, not}
+use Prim.Native.Nat.{◌-◌}
+use Rattle.laws.specs.Loops.{AllSoFar}
+use Rattle.needsets.specs.Marks.{waits_on}
+use Rattle.needsets.proofs.numbers.is_ready.Given as goal
+
+abbrev pub invariant-loop-giver : goal.invariant-loop-giver
+invariant-loop-giver l = AllSoFar (λ g. not (waits_on l.jobs l.number l.marked l.job g)) l.jobs l.giver true
+
+abbrev pub decreases-loop-giver : goal.decreases-loop-giver
+decreases-loop-giver l = l.jobs - l.giver
