@@ -19,8 +19,8 @@ use Rattle.places.specs.Tables.{Tables}
 use Rattle.places.specs.Rows.{by_number, row-distinct, tried_below}
 use Rattle.places.specs.Slot.{Candidates, carried, candidates_at, near_at, able_of, row_at, fit_of, most_of, tries_at, in-row-at, candidates-held}
 use Rattle.places.specs.Fit.{members-distinct, fit-least}
-use Rattle.places.specs.OneSet.{ties-at}
-use Rattle.places.specs.Branching.{tied-alone}
+use Rattle.places.proofs.OneSet.{ties-at}
+use Rattle.places.proofs.Branching.{tied-alone}
 use Rattle.backtrack.specs.declared.Found.{Found}
 use Rattle.backtrack.specs.declared.Choice.{Choice}
 use Rattle.backtrack.specs.Sorting.{plain, found_at, plain-found}

@@ -19,7 +19,7 @@ use Rattle.places.specs.Rows.{chosen-in, picks, in-places, tried-number}
 use Rattle.places.specs.Slot.{Candidates, carried, candidates_at, near_at, able_of, row_at, fit_of, most_of, tries_at, in-row-at, candidates-held}
 use Rattle.places.specs.Model.{no_plan, finished, Tries, done_after, key}
 use Rattle.places.specs.Memo.{Explored, at_once, opening, explore_all, explored, before, key-slot, base-le}
-use Rattle.places.specs.OneSet.{one_set}
+use Rattle.places.proofs.OneSet.{one_set}
 use Rattle.places.specs.Steps.{following, explored-end, explored-marked, explored-open, all-late, Same}
 use Rattle.layout.specs.Layout.{tables_in, marks_in}
 use Rattle.backtrack.specs.declared.Found.{Found}

@@ -4,6 +4,8 @@
 // A state before slot s is `done` and `ran`, sets of places of the slot before: done by its end, and ran in it. `here` is what of `done` has its
 // window still open in slot s: a set of places of slot s, as is all that is tried there. No set of places outlives its slot.
 // The tables are those of crate layout.
+#![tactic(auto)]
+
 ghost use Rattle.std.specs.Prelude.{◌≡◌, true, false, ◌-◌, ◌*◌, ◌<◌, ◌≤◌, ltb, length};
 ghost use Rattle.rules.specs.Sizes.{max_limit, max_width, work_size};
 ghost use Rattle.jobset.specs.Sets.{is_subset, Subset};
@@ -27,7 +29,7 @@ use sizes::{MAX_SLOTS, PLACES};
 
 // The candidates of a slot: those without a giver in the slot before, those with exactly one, and these givers (places of the slot
 // before); and those of them that two candidates share.
-#[derive(Drop)]
+#[derive(Clone, Copy)]
 struct Found {
     pub forced: Set,
     pub tied: Set,
@@ -36,7 +38,7 @@ struct Found {
 }
 
 // The sets that a slot tries: all of `forced`, and of the places `among` just so many, no two of them with one giver in the slot before.
-#[derive(Drop)]
+#[derive(Clone, Copy)]
 struct Choice {
     pub forced: Set,
     pub among: Set,
@@ -155,7 +157,7 @@ fn key_of(tables: &[u16; TABLES], slot: usize, done: Set, ran: Set) -> usize
 }
 
 // Tries a set of places: whether it leads to a plan, and the plan's sets in `path`.
-#[cycle(explore_try_number_try_row_try_set_try_sets)]
+#[cycle(search)]
 fn try_set(
     tables: &[u16; TABLES],
     dead: &mut [u8],
@@ -177,7 +179,7 @@ fn try_set(
 }
 
 // Tries what a number takes of the row, with what is forced, where the slot may have it and it has what must run now.
-#[cycle(explore_try_number_try_row_try_set_try_sets)]
+#[cycle(search)]
 fn try_number(
     tables: &[u16; TABLES],
     dead: &mut [u8],
@@ -210,7 +212,7 @@ fn try_number(
 }
 
 // The sets of a slot in the order of preference: those of the row by falling numbers, with just as many places as the choice says.
-#[cycle(explore_try_number_try_row_try_set_try_sets)]
+#[cycle(search)]
 fn try_row(
     tables: &[u16; TABLES],
     dead: &mut [u8],
@@ -240,7 +242,7 @@ fn try_row(
 }
 
 // The sets of a slot. Most states do not branch: all candidates are the one set.
-#[cycle(explore_try_number_try_row_try_set_try_sets)]
+#[cycle(search)]
 fn try_sets(
     tables: &[u16; TABLES],
     dead: &mut [u8],
@@ -282,7 +284,7 @@ fn try_sets(
 
 // The preferred plan from slot `slot` on: whether there is one, and its sets in `path`. All that is due before the slot is done.
 // `dead` has the marks of the states that were found to have none.
-#[cycle(explore_try_number_try_row_try_set_try_sets)]
+#[cycle(search)]
 pub fn explore(
     tables: &[u16; TABLES],
     dead: &mut [u8],

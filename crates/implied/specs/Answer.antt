@@ -16,9 +16,10 @@ use Rattle.laws.specs.Writing.{put, put_front}
 use Rattle.laws.specs.Numbers.{bytes-all}
 use Rattle.laws.specs.Fields.{number-refused}
 use Rattle.laws.specs.JobFile.{readable, needs-in}
-use Rattle.laws.specs.Refusals.{read-got}
+use Rattle.laws.proofs.Refusals.{read-got}
 use Rattle.laws.specs.Circles.{circle-free}
-use Rattle.laws.specs.Implied.{pairs-length, list-fits}
+use Rattle.laws.specs.Implied.{pairs-length}
+use Rattle.laws.proofs.Implied.{list-fits}
 use Rattle.needrows.specs.Rows.{rows_size, RowsAre}
 use Rattle.jobfile.specs.declared.Counts.{Counts}
 use Rattle.jobfile.specs.Reading.{state_of, Held, Reads}

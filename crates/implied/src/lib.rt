@@ -2,6 +2,8 @@
 //
 // Jobs are counted from 0 here. The takers of each job, and the jobs beyond them, are rows of bits (crate needrows): beyond a job stand
 // the jobs that a chain of two needs or more leads to. So a need follows from others where its taker stands beyond its giver.
+#![tactic(auto)]
+
 ghost use Rattle.std.specs.Prelude.{◌≡◌, [], ◌∷◌, ℕ, ◌+◌, ◌*◌, ◌≤◌, ◌<◌, length};
 ghost use Rattle.rules.specs.Sizes.{max_jobs};
 ghost use Rattle.rules.specs.Basics.{at};
@@ -18,7 +20,7 @@ use needrows::{ROW_BYTES, ROWS_BYTES, WORD_BITS, word, words};
 use sizes::{MAX_JOBS, PAIR_ENTRIES};
 
 // A list of so many pairs; or the number of the question that said no.
-#[derive(Drop)]
+#[derive(Clone, Copy)]
 pub enum Listed {
     Pairs(usize),
     Refused(u8),

@@ -2,6 +2,5 @@
 pub mod Reading
 pub mod Values
 pub mod NeedWays
-pub mod Holding
 pub mod FieldByField
 pub mod Whole

@@ -1,6 +1,8 @@
 // The job file, read field by field: questions 2 to 8 and 10 of document 01, and 21. The field reader stands in crate fieldreader.
 //
 // Jobs are counted from 0 here. The needs go into rows of takers in a lent slice of bytes (crate needrows): a job's row is cleared when the job is read.
+#![tactic(auto)]
+
 ghost use Rattle.std.specs.Prelude.{◌≡◌, List, ℕ, ◌<◌, ◌≤◌, length, T, eqb};
 ghost use Rattle.rules.specs.Sizes.{max_jobs, max_file, max_boards};
 ghost use Rattle.rules.specs.Basics.{choose};
@@ -16,7 +18,7 @@ use sizes::{MAX_BOARDS, MAX_FILE, MAX_JOBS, MAX_SLOTS};
 
 // How much has been read (so many fields, the limit, so many jobs), with number 0; or the number of the question that said no.
 // `sockets` is the value of tag 9, 0 where there is none.
-#[derive(Drop)]
+#[derive(Clone, Copy)]
 pub struct Counts {
     pub number: u8,
     pub sockets: u8,

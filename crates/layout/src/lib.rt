@@ -9,6 +9,8 @@
 //   SLOTS       the slots of the plan that is searched
 //   CAP         the most jobs of a slot
 //   THREE + b   the base-three number of the byte b (crate threes)
+#![tactic(auto)]
+
 ghost use Rattle.std.specs.Prelude.{◌≡◌, ◌<◌};
 ghost use Rattle.rules.specs.Sizes.{max_limit, max_width};
 ghost use Rattle.jobset.specs.Sets.{set_at};

@@ -17,7 +17,8 @@ use Rattle.places.specs.Seats.{subset-on, on-empty}
 use Rattle.places.specs.Windows.{Windows, Seats}
 use Rattle.places.specs.Tables.{Shows}
 use Rattle.places.specs.Slot.{tries_at}
-use Rattle.places.specs.Memo.{Rows, sized_rows, sized_rows_lem, Reached, tries-are-held, cleared-is-find}
+use Rattle.places.specs.Memo.{Rows, sized_rows, sized_rows_lem, Reached}
+use Rattle.places.proofs.Memo.{tries-are-held, cleared-is-find}
 use Rattle.layout.specs.Layout.{marks_at, cap_at, tables_in, marks_in, marks_room}
 use Rattle.shortest.specs.Given.{Ready}
 use Rattle.shortest.specs.Starts.{plan_of, plan-proper}

@@ -1,6 +1,8 @@
 // The shortest start list, the preferred one of its length: one search for each length, from the shortest up.
 //
 // Jobs are counted from 0. The tables are those of crate layout.
+#![tactic(auto)]
+
 ghost use Rattle.std.specs.Prelude.{◌≡◌, ℕ, ◌<◌, ◌≤◌, length, take};
 ghost use Rattle.rules.specs.Sizes.{max_limit};
 ghost use Rattle.jobset.specs.Sets.{set_at};

@@ -1,5 +1,7 @@
 // The places of a slot as a row by job number, and the sets of places that numbers take of a row: in the order of preference, since a slot's jobs are
 // compared from the lowest number up. The tables are those of crate layout.
+#![tactic(auto)]
+
 ghost use Rattle.std.specs.Prelude.{◌≡◌, true, false, ◌^◌, ◌<◌, ◌≤◌, length};
 ghost use Rattle.rules.specs.Sizes.{max_limit, max_width};
 ghost use Rattle.rules.specs.Basics.{at};

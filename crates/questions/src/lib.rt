@@ -1,4 +1,6 @@
 // Questions 15 to 18 of a table, over the starts and boards of its rows in number order.
+#![tactic(auto)]
+
 ghost use Rattle.std.specs.Prelude.{◌≡◌, ℕ, ◌<◌, ◌≤◌, length, leb};
 ghost use Rattle.rules.specs.Basics.{at, all, largest};
 ghost use Rattle.rules.specs.Table.{same_name, apartb};

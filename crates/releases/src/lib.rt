@@ -5,6 +5,8 @@
 // Jobs are counted from 0. The needs are rows of takers (crate needrows).
 //
 // A slot is gathered as a code: twice the latest that was met, and one more where it was met twice.
+#![tactic(auto)]
+
 ghost use Rattle.std.specs.Prelude.{◌≡◌, ℕ, ◌+◌, ◌≤◌, ◌<◌, length, replicate};
 ghost use mathlib.Core.List.{List, Memᴰ};
 ghost use Rattle.rules.specs.Sizes.{max_jobs};

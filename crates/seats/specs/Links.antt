@@ -70,7 +70,7 @@ module _ (release : List ℕ) (limit : ℕ) (first next : List ℕ) (k job : ℕ
         (λ t. let e = (T-eqb (at release job) s).0 t in (
           ap (at (set first (at release job) (job + 1))) (sym e) ∙ get_or-set_same first (at release job) (job + 1) 0 (omega (arith, L.firsts)),
           rw (get_or-set_same next job (at first (at release job)) 0 (omega (arith, L.nexts)), ap (at first) e)
-              (linked-set next (at first s) (released release s k (suc job)) job (at first s) (behind s) (L.chain s m)),
+              (linked-set next (at first s) (released release s k (suc job)) job (at first (at release job)) (behind s) (L.chain s m)),
         ))
         (λ n. rw (get_or-set_other first (at release job) s (job + 1) 0 (λ e. n ((T-eqb (at release job) s).1 (sym e))))
         (linked-set next (at first s) (released release s k (suc job)) job (at first (at release job)) (behind s) (L.chain s m)));

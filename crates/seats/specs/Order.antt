@@ -12,7 +12,8 @@ use Rattle.jobset.specs.Sets.{member}
 use Rattle.jobset.specs.Tests.{present}
 use Rattle.places.specs.Seats.{in-seats}
 use Rattle.places.specs.Windows.{Windows, held, in_held, Seats}
-use Rattle.places.specs.Assign.{Lowest, taken, assigned, assigned-at, entering, entering-is, Enough}
+use Rattle.places.specs.Assign.{Lowest, taken, assigned, entering, entering-is, Enough}
+use Rattle.places.proofs.Assign.{assigned-at}
 
 -- the jobs by release, then by number
 abbrev pub order_of : Windows → List ℕ

@@ -16,9 +16,10 @@ use Rattle.jobset.specs.declared.Set.{Set}
 use Rattle.jobset.specs.Sets.{set_at, empty, member, with, minus}
 use Rattle.jobset.specs.Tests.{present}
 use Rattle.layout.specs.Layout.{held_at, ends_at, due_at, marks_at, prev_at, who_at, slots_at, tables_in, longest_row}
-use Rattle.threes.specs.Threes.{threes, number_of, number_lt}
+use Rattle.threes.specs.Threes.{threes, number_of}
+use Rattle.threes.proofs.Threes.{number_lt}
 use Rattle.places.specs.Seats.{seats_of, in-seats}
-use Rattle.places.specs.Windows.{Windows, holds_slot, held, in_held, Leads}
+use Rattle.places.specs.Windows.{Windows, holds_slot, in_held, Leads}
 use Rattle.places.specs.Tables.{Tables}
 use Rattle.places.specs.Memo.{before, row_start}
 use Rattle.seats.specs.Gather.{seats-with, seats-skip, seats-minus}

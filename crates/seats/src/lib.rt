@@ -4,6 +4,8 @@
 // with an open window has. None left is question 12. Jobs are counted from 0; 0 stands for no job where jobs are linked, and job + 1 for a job.
 //
 // A deadline, `last`, is the slot right behind a window. The tables are those of crate layout.
+#![tactic(auto)]
+
 ghost use Rattle.std.specs.Prelude.{true, ◌≡◌, ℕ, ◌+◌, ◌-◌, ◌*◌, ◌<◌, ◌≤◌, min, length, replicate};
 ghost use mathlib.Core.List.{map, Memᴰ};
 ghost use Rattle.rules.specs.Sizes.{max_width, max_limit, max_jobs};

@@ -14,8 +14,8 @@ use Rattle.rules.specs.Boards.{boards}
 use Rattle.laws.specs.Counting.{most-ge, most-le, at-largest, largest-lt}
 use Rattle.laws.specs.Lists.{zeros-at}
 use Rattle.laws.specs.BoardWords.{GivenBoards, lowest-same}
-use Rattle.laws.specs.BoardLaws.{boards-length}
-use Rattle.laws.specs.BoardsOnly.{boards-only}
+use Rattle.laws.proofs.BoardLaws.{boards-length}
+use Rattle.laws.proofs.BoardsOnly.{boards-only}
 use Rattle.layout.specs.Layout.{tables_in}
 use Rattle.slotboards.specs.Placing.{place_slots, blank, Placeable, Plan, Boarded}
 use Rattle.slotboards.specs.Near.{in-slots}

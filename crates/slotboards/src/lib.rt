@@ -2,6 +2,8 @@
 //
 // The jobs of a slot are a set of its places (crate layout), and the jobs of all slots are the path. Jobs are counted from 0, boards from 1; in a
 // set of boards, board c is the member c.
+#![tactic(auto)]
+
 ghost use Rattle.std.specs.Prelude.{◌≡◌, ℕ, ◌<◌, ◌≤◌, replicate};
 ghost use Rattle.rules.specs.Sizes.{max_limit, max_width, max_jobs};
 ghost use Rattle.rules.specs.Basics.{at, most};
@@ -25,21 +27,21 @@ const ALL_BOARDS: Set = Set {
 };
 
 // Within a slot: the boards left, and the places of the jobs that take no giver's board.
-#[derive(Drop)]
+#[derive(Clone, Copy)]
 struct Inherited {
     pub free: Set,
     pub others: Set,
 }
 
 // A job in a lent row: the slot it starts in and its board.
-#[derive(Drop)]
+#[derive(Clone, Copy)]
 pub struct JobRecord {
     pub start: u8,
     pub board: u8,
 }
 
 // A row of job records in arrays by job, and the number of boards.
-#[derive(Drop)]
+#[derive(Clone, Copy)]
 struct Columns {
     pub count: usize,
     pub starts: [u8; MAX_JOBS],

@@ -20,7 +20,7 @@ use Rattle.laws.specs.Fields.{ask-yes, ask-no, number-refused}
 use Rattle.laws.specs.JobFile.{Readable, readable}
 use Rattle.laws.specs.Check.{q15, q16, q18}
 use Rattle.laws.specs.Decoded.{row_number, decoded_table}
-use Rattle.laws.specs.Refusals.{read-got}
+use Rattle.laws.proofs.Refusals.{read-got}
 use Rattle.laws.specs.Numbers.{bytes-all}
 use Rattle.jobfile.specs.Reading.{state_of, Held, Reads}
 use Rattle.needrows.specs.Rows.{rows_size, RowsAre}

@@ -1,4 +1,6 @@
 // The slot table: the check (questions 2 to 11 and 21 of the job file and 14 to 18 of the table), and the lookup and the name (14, 16 and 17 of the table).
+#![tactic(auto)]
+
 mod places;
 
 ghost use Rattle.std.specs.Prelude.{◌≡◌};
@@ -13,7 +15,7 @@ use rows::read_rows;
 use sizes::MAX_JOBS;
 
 // The table passes; or the number of the question that said no.
-#[derive(Drop)]
+#[derive(Clone, Copy)]
 pub enum Verdict {
     Passes,
     Refused(u8),

@@ -11,7 +11,7 @@ use rows::{Rows, read_rows};
 use sizes::{MAX_JOBS, MAX_SLOTS};
 
 // A job number, from 1; or idle; or the number of the question that said no.
-#[derive(Drop)]
+#[derive(Clone, Copy)]
 pub enum Found {
     Job(usize),
     Idle,
@@ -19,7 +19,7 @@ pub enum Found {
 }
 
 // The same, with where the job's name stands in the table, from start to before end.
-#[derive(Drop)]
+#[derive(Clone, Copy)]
 pub enum Place {
     Name {
         job: usize,
