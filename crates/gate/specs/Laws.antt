@@ -10,7 +10,7 @@ use Rattle.rules.specs.Answers.{Outcome, plan, lookup, name_span, name_at}
 use Rattle.rules.specs.States.{plan_states}
 use Rattle.laws.specs.Tests.{T-eqb, choose_yes, choose_no}
 use Rattle.laws.specs.Numbers.{bytes-all}
-use Rattle.laws.specs.Demands.{plan-size, table-has-bytes}
+use Rattle.laws.proofs.Demands.{plan-size, table-has-bytes}
 use Rattle.laws.specs.States.{states-each}
 use Rattle.planner.specs.Planner.{outcome_of}
 use Rattle.planner.specs.declared.Planned.{Planned}

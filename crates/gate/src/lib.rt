@@ -1,6 +1,7 @@
-// The public library: the planner, the check, the lookup, the name and the state numbers, and the forms of them that C and Rust call.
-//
-// A form for C takes a slice as a pointer and a length, and gives its answer as one number.
+// The public library: the planner, the check, the lookup, the name and the state numbers, and the forms of them that give their answer as one number,
+// which crate gate_c exports to C.
+#![tactic(auto)]
+
 ghost use Rattle.std.specs.Prelude.{◌≡◌, ◌≤◌};
 ghost use Rattle.rules.specs.Sizes.{table_size};
 ghost use Rattle.rules.specs.Fields.{number_of};
@@ -25,8 +26,7 @@ fn answer_number(p: Planned) -> u32
 }
 
 // The length of the table; or 65536 and the number of the question that said no.
-#[unsafe(no_mangle)]
-pub extern "C" fn gate_plan(file: &[u8], work: &mut [u8], table: &mut [u8]) -> u32
+pub fn gate_plan(file: &[u8], work: &mut [u8], table: &mut [u8]) -> u32
     ensures value { result ≡ plan_number (Answers·plan file.now work.old table.old) }
     ensures work_after { work.new ≡ (Answers·plan file.now work.old table.old).work }
     ensures table_after { table.new ≡ (Answers·plan file.now work.old table.old).table }
@@ -36,13 +36,7 @@ pub extern "C" fn gate_plan(file: &[u8], work: &mut [u8], table: &mut [u8]) -> u
 
 // As gate_plan, and for a table the state number of each slot, two bytes each, low byte first; 65536 and 1 where there are fewer than 128 bytes for
 // them.
-#[unsafe(no_mangle)]
-pub extern "C" fn gate_states(
-    file: &[u8],
-    work: &mut [u8],
-    table: &mut [u8],
-    states: &mut [u8],
-) -> u32
+pub fn gate_states(file: &[u8], work: &mut [u8], table: &mut [u8], states: &mut [u8]) -> u32
     ensures value { result ≡ plan_number (plan_states file.now work.old table.old states.old).outcome }
     ensures work_after { work.new ≡ (plan_states file.now work.old table.old states.old).outcome.work }
     ensures table_after { table.new ≡ (plan_states file.now work.old table.old states.old).outcome.table }
@@ -52,8 +46,7 @@ pub extern "C" fn gate_states(
 }
 
 // 0 where the table passes; else the number of the question that said no.
-#[unsafe(no_mangle)]
-pub extern "C" fn gate_check(file: &[u8], table: &[u8]) -> u32
+pub fn gate_check(file: &[u8], table: &[u8]) -> u32
     ensures { result ≡ number_of (Answers·check file.now table.now) }
 {
     let v = check(file, table);
@@ -64,8 +57,7 @@ pub extern "C" fn gate_check(file: &[u8], table: &[u8]) -> u32
 }
 
 // 0 where the board is idle; the job number, from 1; or 65536 and the number of the question that said no.
-#[unsafe(no_mangle)]
-pub extern "C" fn gate_lookup(table: &[u8], slot: usize, board: usize) -> u32
+pub fn gate_lookup(table: &[u8], slot: usize, board: usize) -> u32
     ensures { result ≡ lookup_number (Answers·lookup table.now slot board) }
 {
     let f = lookup(table, slot, board);
@@ -77,8 +69,7 @@ pub extern "C" fn gate_lookup(table: &[u8], slot: usize, board: usize) -> u32
 }
 
 // The offset of the name in the table times 65536, plus its length; 0 where it is empty.
-#[unsafe(no_mangle)]
-pub extern "C" fn gate_name_at(table: &[u8], slot: usize, board: usize) -> u32
+pub fn gate_name_at(table: &[u8], slot: usize, board: usize) -> u32
     ensures { result ≡ name_number table.now (Answers·lookup table.now slot board) }
 {
     let p = table::find(table, slot, board);

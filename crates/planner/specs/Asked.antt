@@ -22,13 +22,13 @@ use Rattle.laws.specs.Tests.{T_true, T-leb, tests, choose_yes, choose_no}
 use Rattle.laws.specs.Fields.{ask-yes, ask-no, number-refused}
 use Rattle.laws.specs.Numbers.{bytes-all}
 use Rattle.laws.specs.JobFile.{readable}
-use Rattle.laws.specs.Refusals.{read-got}
+use Rattle.laws.proofs.Refusals.{read-got}
 use Rattle.laws.specs.Circles.{circle-free}
 use Rattle.laws.specs.Counting.{most-le}
 use Rattle.dominance.specs.Count.{AtLeast}
 use Rattle.jobfile.specs.declared.Counts.{Counts}
 use Rattle.jobfile.specs.Reading.{Reads}
-use Rattle.jobfile.specs.Holding.{recounted}
+use Rattle.jobfile.proofs.Holding.{recounted}
 use Rattle.needrows.specs.Rows.{RowsAre}
 use Rattle.releases.specs.Ordered.{OfNeeds, OrderOf, Peeled}
 use Rattle.releases.specs.Least.{least_of, least-is as spans-iff}

@@ -22,7 +22,8 @@ use Rattle.laws.specs.Lists.{nth-mem, tabulate-at, tabulate-same}
 use Rattle.laws.specs.Program.{program-is}
 use Rattle.laws.specs.Circles.{circle-free}
 use Rattle.laws.specs.Best.{Shortest, best-found}
-use Rattle.laws.specs.Planned.{asked-13, few-boards}
+use Rattle.laws.specs.Planned.{asked-13}
+use Rattle.laws.proofs.Planned.{few-boards}
 use Rattle.jobset.specs.Sets.{set_at}
 use Rattle.places.specs.OfFile.{file_windows}
 use Rattle.layout.specs.Layout.{tables_in}

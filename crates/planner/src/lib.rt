@@ -2,6 +2,8 @@
 //
 // Jobs are counted from 0 here. The working buffer holds the needs (crate needrows) until the tables of places are made, and then the bitmap of
 // the search.
+#![tactic(auto)]
+
 ghost use Rattle.std.specs.Prelude.{◌≡◌, ◌≤◌, ◌<◌, length};
 ghost use Rattle.rules.specs.Sizes.{max_jobs, work_size, table_size};
 ghost use Rattle.rules.specs.Answers.{plan};
@@ -11,7 +13,7 @@ use layout::{CAP, TABLES};
 use sizes::{MAX_JOBS, MAX_SLOTS, TABLE_BYTES, WORK_BYTES};
 
 // A table of so many bytes, or the number of the question that said no.
-#[derive(Drop)]
+#[derive(Clone, Copy)]
 pub enum Planned {
     Table(usize),
     Refused(u8),

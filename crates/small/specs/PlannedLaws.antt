@@ -9,7 +9,8 @@ use Rattle.rules.specs.Fields.{Answer, refused, got, field}
 use Rattle.rules.specs.Table.{Table, encode}
 use Rattle.rules.specs.Answers.{Outcome, written, plan}
 use Rattle.rules.specs.SmallGates.{slots_in, planned_slots, or_zero}
-use Rattle.laws.specs.Demands.{asked, plan-full, answers-full, answers-table, table-has-bytes}
+use Rattle.laws.specs.Demands.{asked, plan-full, answers-full}
+use Rattle.laws.proofs.Demands.{answers-table, table-has-bytes}
 use Rattle.planner.specs.declared.Planned.{Planned}
 use Rattle.planner.specs.declared.Planned.TheVariants as planned
 use Rattle.planner.specs.Planner.{outcome_of}

@@ -1,6 +1,8 @@
 // Every small gate: document 02, request 14.
 //
 // A set of needs of so many jobs is a number (crate needsets).
+#![tactic(auto)]
+
 ghost use Rattle.std.specs.Prelude.{◌≡◌, [], ◌∷◌, ◌+◌, ◌≤◌, ◌<◌, length};
 ghost use Rattle.rules.specs.Basics.{joined};
 ghost use Rattle.rules.specs.SmallGates.{gate_file, planned_slots, gate_lines, or_zero, line_numbers, small_gates};

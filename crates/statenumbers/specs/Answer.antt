@@ -25,8 +25,9 @@ use Rattle.laws.specs.Circles.{circle-free}
 use Rattle.laws.specs.Width.{window}
 use Rattle.laws.specs.States.{held-window, held-is, held-few, report-of, states-short, states-outcome, states-refused, states-reported}
 use Rattle.laws.specs.Decoded.{decoded_table}
-use Rattle.laws.specs.Demands.{asked, plan-full, answers-full, answers-table, table-has-bytes, FromFile, from-file}
-use Rattle.laws.specs.Planned.{reads-back}
+use Rattle.laws.specs.Demands.{asked, plan-full, answers-full, FromFile, from-file}
+use Rattle.laws.proofs.Demands.{answers-table, table-has-bytes}
+use Rattle.laws.proofs.Planned.{reads-back}
 use Rattle.laws.specs.Writing.{put, put_front, joined-map, joined_same}
 use Rattle.bitmap.specs.Marks.{cleared as zeroed}
 use Rattle.rows.specs.declared.Rows as code

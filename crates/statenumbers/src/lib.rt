@@ -3,6 +3,8 @@
 // The planner is called as it is. Where it has written a table, the job file and the table are read once more, and crate slotstates makes the numbers
 // of the starts in the table and the windows of the file. The working buffer, which the planner has cleared, holds the needs (crate needrows)
 // meanwhile.
+#![tactic(auto)]
+
 ghost use Rattle.std.specs.Prelude.{◌≡◌, ◌≤◌, length};
 ghost use Rattle.rules.specs.Sizes.{states_size};
 ghost use Rattle.rules.specs.Reports.{report_on, reported};
