@@ -1,4 +1,6 @@
+#![tactic(auto)]
+
 // Tries check_table on a table file that is not there: no verdict.
-fn main() {
-    commands::check_table();
+fn main(rt: HostRuntime) {
+    commands::check_table(&rt);
 }

@@ -3,6 +3,8 @@
 //
 // A job file that fills its buffer is longer than a file may be, and is refused by question 2, whatever follows; a table file that fills its
 // buffer is longer than any table, and is refused by question 14.
+#![tactic(auto)]
+
 ghost use Rattle.std.specs.Prelude.{◌≡◌, true, ◌⊎◌, length, take};
 ghost use Rattle.rules.specs.Fields.{number_of};
 ghost use Rattle.rules.specs.Answers.{plan as Answers·plan, check as Answers·check};
@@ -12,8 +14,12 @@ ghost use Rattle.laws.specs.Refusals.{PlanNumber, ImpliedNumber, CheckNumber, Lo
 ghost use Rattle.gate.specs.Numbers.{planned_size};
 
 use gate::Planned;
-use libc::{STDERR_FILENO, STDIN_FILENO};
 use sizes::{MAX_FILE, PAIR_ENTRIES, STATE_BYTES, TABLE_BYTES};
+use std::rt::{Env, Files};
+
+const STDIN_FILENO: i32 = 0;
+
+const STDERR_FILENO: i32 = 2;
 
 // Room for one byte more than a job file and a table may have.
 const FILE_ROOM: usize = MAX_FILE + 1;
@@ -60,23 +66,23 @@ pub fn plan() -> u8
 }
 
 // Writes a table to the file that argument 2 names; says whether there was none to write, or all of it was written.
-fn save(table: &[u8]) -> bool
+fn save(rt: &(impl Env + Files), table: &[u8]) -> bool
     ensures { length table.now ≡ 0 → result ≡ true }
 {
     if table.len() == 0 {
         return true;
     }
-    files::write_argument(2, table) != 0
+    files::write_argument(rt, 2, table) != 0
 }
 
 // Plans a job file in lent buffers; writes the table to the file that argument 2 names, and prints it, or that the job file is refused; gives the
 // number. A table that could not be written is not printed.
-fn plan_to_file(file: &[u8], work: &mut [u8], table: &mut [u8]) -> u8
+fn plan_to_file(rt: &(impl Env + Files), file: &[u8], work: &mut [u8], table: &mut [u8]) -> u8
     ensures { result ≡ (Answers·plan file.now work.old table.old).number }
 {
     let p = gate::plan(file, work, table);
     let planned = table_of(p, table);
-    if !save(planned) {
+    if !save(rt, planned) {
         return 0;
     }
     printing::print_planned(p, planned)
@@ -84,22 +90,22 @@ fn plan_to_file(file: &[u8], work: &mut [u8], table: &mut [u8]) -> u8
 
 // Plans the job file, argument 1; writes the table file, argument 2, and prints the table, or that the job file is refused. A refusal
 // writes no file.
-pub fn plan_table() -> u8
+pub fn plan_table(rt: &(impl Env + Files)) -> u8
     ensures { (result ≡ 0) ⊎ PlanNumber result }
 {
-    if os::arg_count() != 3 {
+    if files::argument_count(rt) != 3 {
         io::write_all(STDERR_FILENO, b"usage: plan_table JOB_FILE TABLE_FILE\n");
         return 0;
     }
     let mut file = [0u8; FILE_ROOM];
     let mut work = io::large_buffer();
     let mut table = [0u8; TABLE_BYTES];
-    let f = files::read_argument(1, &mut file);
+    let f = files::read_argument(rt, 1, &mut file);
     if !f.ok {
         return 0;
     }
     let n = f.count;
-    plan_to_file(&file[..n], &mut work, &mut table)
+    plan_to_file(rt, &file[..n], &mut work, &mut table)
 }
 
 // Prints whether a table passes for a job file; gives the number.
@@ -110,20 +116,20 @@ fn check_bytes(file: &[u8], table: &[u8]) -> u8
 }
 
 // Prints whether the table file, argument 2, passes for the job file, argument 1.
-pub fn check_table() -> u8
+pub fn check_table(rt: &(impl Env + Files)) -> u8
     ensures { (result ≡ 0) ⊎ CheckNumber result }
 {
-    if os::arg_count() != 3 {
+    if files::argument_count(rt) != 3 {
         io::write_all(STDERR_FILENO, b"usage: check_table JOB_FILE TABLE_FILE\n");
         return 0;
     }
     let mut file = [0u8; FILE_ROOM];
     let mut table = [0u8; TABLE_ROOM];
-    let f = files::read_argument(1, &mut file);
+    let f = files::read_argument(rt, 1, &mut file);
     if !f.ok {
         return 0;
     }
-    let t = files::read_argument(2, &mut table);
+    let t = files::read_argument(rt, 2, &mut table);
     if !t.ok {
         return 0;
     }
@@ -133,15 +139,15 @@ pub fn check_table() -> u8
 }
 
 // Prints the table file, argument 1, for people: a line for each slot, a column for each board.
-pub fn show_table() -> u8
+pub fn show_table(rt: &(impl Env + Files)) -> u8
     ensures { (result ≡ 0) ⊎ LookupNumber result }
 {
-    if os::arg_count() != 2 {
+    if files::argument_count(rt) != 2 {
         io::write_all(STDERR_FILENO, b"usage: show_table TABLE_FILE\n");
         return 0;
     }
     let mut table = [0u8; TABLE_ROOM];
-    let t = files::read_argument(1, &mut table);
+    let t = files::read_argument(rt, 1, &mut table);
     if !t.ok {
         return 0;
     }

@@ -1,5 +1,7 @@
 // The boards that a lent row of job records gets (slotboards::place_rows): of Figure 1 of document 000, and of eight jobs without needs.
 // Prints for each the boards in the order of the jobs.
+#![tactic(auto)]
+
 ghost use Rattle.std.specs.Prelude.{◌≡◌, [], ◌<◌};
 ghost use Rattle.rules.specs.Sizes.{max_limit, max_width, max_jobs};
 ghost use Rattle.slotboards.specs.Rows.{RowsSeated, rules_rows};
@@ -9,12 +11,13 @@ ghost use Rattle.placed_rows.specs.Figure.{figure_needs, figure_seats, first_sea
 
 use fields::wide;
 use layout::{PREV, TABLES, WHO};
-use libc::STDOUT_FILENO;
 use sizes::{MAX_JOBS, PLACES};
 use slotboards::JobRecord;
 
+const STDOUT_FILENO: i32 = 1;
+
 // Where eight jobs run: the slot of each, its place, and the set of the places of the slot before whose jobs give to it.
-#[derive(Drop)]
+#[derive(Clone, Copy)]
 struct Seats {
     pub slots: [u8; 8],
     pub places: [u8; 8],

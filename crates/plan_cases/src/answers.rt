@@ -1,7 +1,7 @@
 // The planner's answer to a job file, as a line.
 ghost use Rattle.std.specs.Prelude.{◌≡◌, length};
 
-use libc::STDOUT_FILENO;
+use crate::STDOUT_FILENO;
 use sizes::TABLE_BYTES;
 
 // What both buffers are full of before a call.

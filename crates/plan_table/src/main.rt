@@ -1,4 +1,6 @@
+#![tactic(auto)]
+
 // Plans a job file, writes the table file, and prints the table for people, or `refused` and the number: plan_table JOB_FILE TABLE_FILE.
-fn main() {
-    commands::plan_table();
+fn main(rt: HostRuntime) {
+    commands::plan_table(&rt);
 }

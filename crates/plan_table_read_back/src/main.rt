@@ -1,5 +1,7 @@
+#![tactic(auto)]
+
 // Plans a job file into a table file that held something else, and checks the table file then.
-fn main() {
-    commands::plan_table();
-    commands::check_table();
+fn main(rt: HostRuntime) {
+    commands::plan_table(&rt);
+    commands::check_table(&rt);
 }

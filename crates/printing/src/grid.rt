@@ -1,9 +1,9 @@
 // A table for people: a line for each slot, a column for each board, job number and name in a cell, a dot where the board is idle.
 ghost use Rattle.std.specs.Prelude.{◌≡◌, ◌-◌, ◌≤◌};
 
+use crate::STDOUT_FILENO;
 use fields::wide;
 use gate::Found;
-use libc::STDOUT_FILENO;
 
 // A column has four bytes for a number, a blank, and twelve bytes for a name.
 const BLANKS: [u8; 13] = [32, 32, 32, 32, 32, 32, 32, 32, 32, 32, 32, 32, 32];

@@ -3,6 +3,8 @@
 //
 // What is printed is tested, each program against its file `stdout`, and not proved: a contract cannot speak of what goes out. What a function
 // gives back is proved.
+#![tactic(auto)]
+
 mod grid;
 mod lines;
 mod numbers;
@@ -18,7 +20,10 @@ ghost use Rattle.small.specs.Lines.{all_agreed};
 
 use gate::{Found, Planned, Verdict};
 use implied::Listed;
-use libc::STDOUT_FILENO;
+
+const STDOUT_FILENO: i32 = 1;
+
+const STDERR_FILENO: i32 = 2;
 
 // The line of a refusal; gives its number.
 fn print_refused(number: u8) -> u8

@@ -2,7 +2,7 @@
 ghost use Rattle.std.specs.Prelude.{◌≡◌, not, eqb};
 ghost use Rattle.small.specs.Lines.{all_agreed};
 
-use libc::{STDERR_FILENO, STDOUT_FILENO};
+use crate::{STDERR_FILENO, STDOUT_FILENO};
 
 // Two numbers, with a blank between them.
 fn print_two(to: i32, jobs: u16, number: u16) {

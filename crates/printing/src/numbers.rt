@@ -2,8 +2,8 @@
 ghost use Rattle.std.specs.Prelude.{◌≡◌, ◌*◌, take};
 ghost use Rattle.rules.specs.Basics.{at};
 
+use crate::STDOUT_FILENO;
 use fields::{wide, word_at};
-use libc::STDOUT_FILENO;
 use sizes::PLACE_SETS;
 
 // The line of a number.

@@ -1,7 +1,7 @@
 // Pairs of job numbers as text: a line for each, giver and taker.
 ghost use Rattle.std.specs.Prelude.{◌≡◌, ◌*◌, take};
 
-use libc::STDOUT_FILENO;
+use crate::STDOUT_FILENO;
 
 // The first so many pairs of a list.
 pub(crate) fn first(list: &[u16], count: usize) -> &[u16]

@@ -1,6 +1,6 @@
 // A planned table as text: a line with slots and boards, then a line for each job with its number, name, start, board and centimetres.
+use crate::STDOUT_FILENO;
 use fields::{is_whole, value_at, wide, word_at};
-use libc::STDOUT_FILENO;
 
 // These bytes.
 fn print(text: &[u8]) {

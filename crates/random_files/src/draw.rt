@@ -6,7 +6,7 @@ ghost use Rattle.std.specs.Prelude.{◌≤◌};
 use sizes::TABLE_BYTES;
 
 // What a job file says besides its needs. `sockets` is the value of tag 9, 0 where there is none.
-#[derive(Drop)]
+#[derive(Clone, Copy)]
 pub(crate) struct Sizes {
     pub jobs: u8,
     pub limit: u8,

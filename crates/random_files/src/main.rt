@@ -11,11 +11,15 @@
 // Prints how many files, tables and refusals there were (tables, 11 and 13 make up the files; 12 is of the files with extra jobs), the
 // slots of all tables, how many answers or buffers differ, how many tables the check refused, and how many answers would be others
 // without tag 9.
+#![tactic(auto)]
+
 mod draw;
 mod lists;
 mod placing;
 mod trial;
 mod width;
+
+const STDOUT_FILENO: i32 = 1;
 
 fn main() {
     trial::all();

@@ -1,11 +1,11 @@
 // The planner on random files, compared with the search, and what is counted.
 ghost use Rattle.std.specs.Prelude.{◌≤◌};
 
+use crate::STDOUT_FILENO;
 use crate::draw::{Sizes, draw_needs, jobs_of, next, put_file, sockets_of};
 use crate::lists::{CIRCLE, NONE, WIDE, best, largest, list, of, slots};
 use crate::placing::place;
 use crate::width::width;
-use libc::STDOUT_FILENO;
 use sizes::TABLE_BYTES;
 
 // How many files.

@@ -7,7 +7,7 @@ use crate::draw::Sizes;
 use crate::lists::{gives, larger, of};
 
 // Of some givers of a job: the largest release plus one, 0 where there are none, and whether two have it.
-#[derive(Drop)]
+#[derive(Clone, Copy)]
 struct Foremost {
     pub next: u8,
     pub tied: bool,

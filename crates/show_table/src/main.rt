@@ -1,4 +1,6 @@
+#![tactic(auto)]
+
 // Prints a table file for people: show_table TABLE_FILE.
-fn main() {
-    commands::show_table();
+fn main(rt: HostRuntime) {
+    commands::show_table(&rt);
 }

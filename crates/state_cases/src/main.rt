@@ -1,9 +1,12 @@
 // State numbers (document 02, request 11) of tables of document 01's cases: for each job file a line that says what it is, then the number of each slot, or the
 // refusal.
+#![tactic(auto)]
+
 ghost use Rattle.std.specs.Prelude.{◌≤◌, length};
 
-use libc::STDOUT_FILENO;
 use sizes::{STATE_BYTES, TABLE_BYTES};
+
+const STDOUT_FILENO: i32 = 1;
 
 // The numbers of a job file, with so many bytes for them; or the refusal.
 fn print_numbers(file: &[u8], work: &mut [u8], table: &mut [u8], states: &mut [u8], room: usize)

@@ -1,5 +1,5 @@
 // The check on the job file of document 01's example and its table, with bytes of the table changed, and of a level in the file.
-use libc::STDOUT_FILENO;
+use crate::STDOUT_FILENO;
 
 // Needs 1-3, 2-3, limit 3.
 pub const FILE: [u8; 36] = [

@@ -1,6 +1,6 @@
 // The lookup and the name on the table of document 01's example.
+use crate::STDOUT_FILENO;
 use crate::checked::{TABLE, show};
-use libc::STDOUT_FILENO;
 
 // The answer and the name's place.
 fn at(label: &[u8], slot: usize, board: usize) {

@@ -1,0 +1,9 @@
+-- Both buffers are large enough, so the number is one of the questions that the planner asks.
+use Rattle.std.proofs.Common.{arith}
+use Rattle.laws.proofs.Demands.{plan-numbers}
+use Rattle.commands.proofs.plan_table.Goals as goal
+
+pub returns : goal.returns
+returns g c =
+    let w = c.large_buffer-work.ensures in
+    rw c.plan_to_file.ensures (plan-numbers _ _ _ (omega (arith, w)) (omega arith))
