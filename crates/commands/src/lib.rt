@@ -26,6 +26,9 @@ const FILE_ROOM: usize = MAX_FILE + 1;
 
 const TABLE_ROOM: usize = TABLE_BYTES + 1;
 
+// One argument more than any program takes, its own name among them.
+const MOST_ARGUMENTS: usize = 4;
+
 // The first so many bytes of a buffer.
 fn front(buffer: &[u8], size: usize) -> &[u8]
     ensures { result.now ≡ take size buffer.now }
@@ -93,7 +96,7 @@ fn plan_to_file(rt: &(impl Env + Files), file: &[u8], work: &mut [u8], table: &m
 pub fn plan_table(rt: &(impl Env + Files)) -> u8
     ensures { (result ≡ 0) ⊎ PlanNumber result }
 {
-    if files::argument_count(rt) != 3 {
+    if files::argument_count(rt, MOST_ARGUMENTS) != 3 {
         io::write_all(STDERR_FILENO, b"usage: plan_table JOB_FILE TABLE_FILE\n");
         return 0;
     }
@@ -119,7 +122,7 @@ fn check_bytes(file: &[u8], table: &[u8]) -> u8
 pub fn check_table(rt: &(impl Env + Files)) -> u8
     ensures { (result ≡ 0) ⊎ CheckNumber result }
 {
-    if files::argument_count(rt) != 3 {
+    if files::argument_count(rt, MOST_ARGUMENTS) != 3 {
         io::write_all(STDERR_FILENO, b"usage: check_table JOB_FILE TABLE_FILE\n");
         return 0;
     }
@@ -142,7 +145,7 @@ pub fn check_table(rt: &(impl Env + Files)) -> u8
 pub fn show_table(rt: &(impl Env + Files)) -> u8
     ensures { (result ≡ 0) ⊎ LookupNumber result }
 {
-    if files::argument_count(rt) != 2 {
+    if files::argument_count(rt, MOST_ARGUMENTS) != 2 {
         io::write_all(STDERR_FILENO, b"usage: show_table TABLE_FILE\n");
         return 0;
     }

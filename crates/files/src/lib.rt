@@ -1,7 +1,7 @@
 // Reading and writing the file that an argument names.
 #![tactic(auto)]
 
-ghost use Rattle.std.specs.Prelude.{◌≡◌, false, ◌⊎◌, length};
+ghost use Rattle.std.specs.Prelude.{◌≡◌, ◌≤◌, false, ◌⊎◌, length};
 ghost use Rattle.io.specs.Counts.{IsPrefixLen};
 
 use std::env::FillError;
@@ -20,14 +20,16 @@ pub struct Contents {
     pub count: usize,
 }
 
-// How many arguments the program was started with, its own name among them.
-pub fn argument_count(rt: &impl Env) -> usize {
-    for i in 0..usize::MAX {
+// How many arguments the program was started with, its own name among them; `most` where there are more. (How many there are, no clause can say.)
+pub fn argument_count(rt: &impl Env, most: usize) -> usize
+    ensures { result ≤ most }
+{
+    for i in 0..most {
         if !has_argument(rt, i) {
             return i;
         }
     }
-    usize::MAX
+    most
 }
 
 fn has_argument(rt: &impl Env, i: usize) -> bool {
