@@ -85,7 +85,8 @@ places_try goes near must c ps dead =
     choose (is_try near c.count ps && is_subset must S) (attempt goes S dead) (at_once no_plan dead)
 
 abbrev pub numbered : List ℕ → ℕ → Set → Set → Choice → List ℕ → Set → List ℕ → Explored
-numbered words s here ran c row number dead = places_try (after words s here) (near_at (tables_in words) s ran) (must_at words s here) c (chosen row number) dead
+numbered words s here ran c row number dead =
+    places_try (after words s here) (near_at (tables_in words) s ran) (must_at words s here) c (chosen row number) dead
 
 -- all tries of a choice
 unfoldable pub choice_tries : List ℕ → ℕ → Set → Set → Choice → List ℕ → Explored

@@ -37,7 +37,8 @@ with_tied c p near = record {
 
 -- one more place, with its job's givers
 unfoldable pub sort_place : Set → Set → ℕ → Set → Found → Found
-sort_place done ran p givers c = choose (is_forced done ran givers) (with_forced c p) (choose (is_tied done ran givers) (with_tied c p (intersection givers ran)) c)
+sort_place done ran p givers c =
+    choose (is_forced done ran givers) (with_forced c p) (choose (is_tied done ran givers) (with_tied c p (intersection givers ran)) c)
 
 unfoldable pub sort_places : (ℕ → Set) → Set → Set → Found → List ℕ → Found
 sort_places givers done ran c [] = c

@@ -1,5 +1,5 @@
 -- The search step by step, as the code meets it: at a state, at its sets, and at the numbers of a row. Assumes nothing.
-use Rattle.std.proofs.Common.{eq-eqb, subst, ◌∙◌, inl, inr, ⊎_elim, true≢false, add-one, arith}
+use Rattle.std.proofs.Common.{eq-eqb, ◌∙◌, inl, inr, ⊎_elim, true≢false, add-one, arith}
 use Rattle.std.specs.Prelude.{◌≡◌, ◌⊎◌, Bool, ◌&&◌, ℕ, zero, suc, ◌+◌, ◌-◌, ◌^◌, ◌≤◌, ◌<◌, eqb, length}
 use Rattle.std.proofs.Math.Path.{refl, sym, ap}
 use Rattle.std.proofs.Math.Bool.{true, false}
@@ -252,7 +252,8 @@ module _ {words : List ℕ} {s : ℕ} {here ran : Set} {c : Choice} {row : List 
 
   module _ {dead path : List ℕ} {n : ℕ} (g : Going words s here ran c row all dead₀ path₀ dead path (suc n)) where
     -- a number that leads on
-    pub going-hit : (try_in words s here ran c row n dead).plan.ok ≡ true → Same (try_in words s here ran c row n dead) (below_in words s here ran c row all dead₀)
+    pub going-hit : (try_in words s here ran c row n dead).plan.ok ≡ true
+        → Same (try_in words s here ran c row n dead) (below_in words s here ran c row all dead₀)
     going-hit h = same-trans (number-hit (after words s here) (near_at (tables_in words) s ran) (must_at words s here) c row n dead h) g.same
 
     -- one that does not, with what the code has after it
@@ -269,11 +270,6 @@ module _ {words : List ℕ} {s : ℕ} {here ran : Set} {c : Choice} {row : List 
           path-is = t.path-is ∙ ap (λ (p : Plan). written s p.sets path) (number-empty goes near (must_at words s here) c row n dead o) ∙ g.path-is;
           same = rw t.dead-is (same-trans (number-miss goes near (must_at words s here) c row n dead late o) g.same);
         }
-
-  -- the numbers below n, where there is one
-  pub going_next : {dead path : List ℕ} {n : ℕ} → 0 < n → Going words s here ran c row all dead₀ path₀ dead path n
-      → Going words s here ran c row all dead₀ path₀ dead path (suc (n - 1))
-  going_next {dead} {path} l g = subst (λ (m : ℕ). Going words s here ran c row all dead₀ path₀ dead path m) (omega arith) g
 
   pub going_end : {dead path : List ℕ} → Going words s here ran c row all dead₀ path₀ dead path 0
       → Same (at_once no_plan dead) (below_in words s here ran c row all dead₀)

@@ -11,7 +11,7 @@ ghost use Rattle.rules.specs.Sizes.{max_limit, max_width, work_size};
 ghost use Rattle.jobset.specs.Sets.{is_subset, Subset};
 ghost use Rattle.threes.specs.Threes.{Eight};
 ghost use Rattle.places.specs.Rows.{chosen};
-ghost use Rattle.places.specs.Slot.{carried, fit_of};
+ghost use Rattle.places.specs.Slot.{fit_of};
 ghost use Rattle.places.specs.Model.{key};
 ghost use Rattle.places.specs.Memo.{Reached};
 ghost use Rattle.layout.specs.Layout.{tables_in, marks_in, ThreesIn, place_sets};
@@ -23,8 +23,8 @@ ghost use Rattle.backtrack.specs.Search.{Searchable, Opened, InSlot, Takes, Told
 ghost use Rattle.backtrack.specs.Search.{must_at, explored_in, attempted, numbered, choice_tries, slot_tries};
 
 use jobset::Set;
-use layout::{CAP, DUE, ENDS, HELD, MARKS, PREV, SLOTS, TABLES, THREE, WHO, set_at};
-use placesets::{by_number, first_end, givers_at, next_end, pick};
+use layout::{CAP, DUE, ENDS, HELD, MARKS, SLOTS, TABLES, THREE, set_at};
+use placesets::{by_number, givers_at, numbers, pick};
 use sizes::{MAX_SLOTS, PLACES};
 
 // The candidates of a slot: those without a giver in the slot before, those with exactly one, and these givers (places of the slot
@@ -45,6 +45,15 @@ struct Choice {
     pub count: usize,
 }
 
+// A slot that is searched, with a state before it: what of its places is done, what ran in the slot before, and what must run in it.
+#[derive(Clone, Copy)]
+struct Slot {
+    pub index: usize,
+    pub here: Set,
+    pub ran: Set,
+    pub must: Set,
+}
+
 // ---- the candidates
 
 // One more place, with its job's givers, among the candidates where the job is one.
@@ -56,26 +65,20 @@ fn sort_place(c: Found, givers: Set, done: Set, ran: Set, p: usize) -> Found
         return c;
     }
     let near = givers.intersection(ran);
-    let forced = c.forced;
-    let tied = c.tied;
-    let tying = c.tying;
-    let shared = c.shared;
     if near.is_empty() {
         return Found {
-            forced: forced.with(p),
-            tied,
-            tying,
-            shared,
+            forced: c.forced.with(p),
+            ..c
         };
     }
     if !near.is_one() {
         return c;
     }
     Found {
-        forced,
-        tied: tied.with(p),
-        tying: tying.union(near),
-        shared: shared.union(tying.intersection(near)),
+        tied: c.tied.with(p),
+        tying: c.tying.union(near),
+        shared: c.shared.union(c.tying.intersection(near)),
+        ..c
     }
 }
 
@@ -85,17 +88,14 @@ fn candidates_at(tables: &[u16; TABLES], slot: usize, here: Set, done: Set, ran:
     ensures { result ≡ found_at (tables_in tables.now) slot here done ran }
 {
     let held = set_at(tables, HELD + slot);
-    let mut rest = held.minus(here);
     let mut c = Found {
         forced: Set::EMPTY,
         tied: Set::EMPTY,
         tying: Set::EMPTY,
         shared: Set::EMPTY,
     };
-    while !rest.is_empty() {
-        let p = rest.lowest() as usize;
+    for p in held.minus(here) {
         c = sort_place(c, givers_at(tables, slot, p), done, ran, p);
-        rest = rest.rest();
     }
     c
 }
@@ -105,13 +105,11 @@ fn exceeds(tables: &[u16; TABLES], c: Found) -> bool
     requires { fit_of (plain c) ≤ max_width }
     ensures { result ≡ ltb (cap_in tables.now) (fit_of (plain c)) }
 {
-    let cap = fields::index(tables[CAP]);
+    let cap = usize::from(tables[CAP]);
     if cap == PLACES {
         return false;
     }
-    let forced = c.forced;
-    let tying = c.tying;
-    cap < (forced.count() + tying.count()) as usize
+    cap < (c.forced.count() + c.tying.count()) as usize
 }
 
 // What the slot tries: every forced candidate, and one for each tying giver; or, where that exceeds the cap, as many of all candidates.
@@ -119,20 +117,17 @@ fn choice_of(tables: &[u16; TABLES], c: Found) -> Choice
     requires { fit_of (plain c) ≤ max_width }
     ensures { result ≡ choice_of (cap_in tables.now) c }
 {
-    let forced = c.forced;
-    let tied = c.tied;
-    let tying = c.tying;
     if exceeds(tables, c) {
         return Choice {
             forced: Set::EMPTY,
-            among: forced.union(tied),
-            count: fields::index(tables[CAP]),
+            among: c.forced.union(c.tied),
+            count: usize::from(tables[CAP]),
         };
     }
     Choice {
-        forced,
-        among: tied,
-        count: tying.count() as usize,
+        forced: c.forced,
+        among: c.tied,
+        count: c.tying.count() as usize,
     }
 }
 
@@ -142,7 +137,7 @@ fn choice_of(tables: &[u16; TABLES], c: Found) -> Choice
 fn first_mark(byte: u16) -> usize
     ensures { (result ≡ 8 * byte) × (result < 8 * work_size) }
 {
-    8 * (byte as usize)
+    8 * usize::from(byte)
 }
 
 // The mark of a state.
@@ -151,94 +146,87 @@ fn key_of(tables: &[u16; TABLES], slot: usize, done: Set, ran: Set) -> usize
     ensures { result ≡ key (marks_in tables.now) slot done ran }
 {
     let row = first_mark(tables[MARKS + slot]);
-    let of_done = fields::index(tables[THREE + done.bits as usize]);
-    let of_ran = fields::index(tables[THREE + ran.bits as usize]);
+    let of_done = usize::from(tables[THREE + done.bits as usize]);
+    let of_ran = usize::from(tables[THREE + ran.bits as usize]);
     row + (of_done + of_ran)
 }
 
-// Tries a set of places: whether it leads to a plan, and the plan's sets in `path`.
-#[cycle(search)]
-fn try_set(
-    tables: &[u16; TABLES],
-    dead: &mut [u8],
-    here: Set,
-    places: Set,
-    slot: usize,
-    path: &mut [u8; MAX_SLOTS],
-) -> bool
-    requires { InSlot tables.now (length dead.old) slot here × Subset places ((tables_in tables.now).held slot)
-        × (is_subset (must_at tables.now slot here) places ≡ true) }
-    ensures { Told slot (attempted tables.now slot here places dead.old) path.old result path.new
-        dead.new }
-{
-    if explore(tables, dead, here.union(places), places, slot + 1, path) {
-        path[slot] = places.bits as u8;
-        return true;
-    }
-    false
-}
-
-// Tries what a number takes of the row, with what is forced, where the slot may have it and it has what must run now.
-#[cycle(search)]
-fn try_number(
-    tables: &[u16; TABLES],
-    dead: &mut [u8],
-    here: Set,
-    ran: Set,
-    slot: usize,
-    path: &mut [u8; MAX_SLOTS],
-    c: Choice,
-    must: Set,
-    row: &[u8; PLACES],
-    number: Set,
-) -> bool
-    requires { InSlot tables.now (length dead.old) slot here × (must ≡ must_at tables.now slot here) × (number.bits < place_sets)
-        × Takes ((tables_in tables.now).held slot) c (chosen (row_from row.now max_width) number) }
-    ensures { Told slot (numbered tables.now slot here ran c (row_from row.now max_width) number dead.old)
-        path.old result path.new dead.new }
-{
-    let picked = pick(tables, slot, ran, row, number);
-    if picked.is_empty() {
-        if !number.is_empty() {
-            return false;
-        }
-    }
-    let forced = c.forced;
-    let places = forced.union(picked);
-    if !must.is_subset(places) {
-        return false;
-    }
-    try_set(tables, dead, here, places, slot, path)
-}
-
-// The sets of a slot in the order of preference: those of the row by falling numbers, with just as many places as the choice says.
-#[cycle(search)]
-fn try_row(
-    tables: &[u16; TABLES],
-    dead: &mut [u8],
-    here: Set,
-    ran: Set,
-    slot: usize,
-    path: &mut [u8; MAX_SLOTS],
-    c: Choice,
-    must: Set,
-) -> bool
-    requires { InSlot tables.now (length dead.old) slot here × (must ≡ must_at tables.now slot here)
-        × Subset c.forced ((tables_in tables.now).held slot) × Subset c.among ((tables_in tables.now).held slot) }
-    ensures { Told slot (choice_tries tables.now slot here ran c dead.old) path.old result path.new
-        dead.new }
-{
-    let mut row = [0; PLACES];
-    let size = by_number(tables, slot, c.among, &mut row);
-    let mut end = first_end(size, c.count);
-    while 0 < end {
-        let number = Set { bits: end - 1 };
-        end = next_end(number);
-        if try_number(tables, dead, here, ran, slot, path, c, must, &row, number) {
+impl Slot {
+    // Tries a set of places: whether it leads to a plan, and the plan's sets in `path`.
+    #[cycle(search)]
+    fn try_set(
+        self,
+        tables: &[u16; TABLES],
+        dead: &mut [u8],
+        places: Set,
+        path: &mut [u8; MAX_SLOTS],
+    ) -> bool
+        requires { InSlot tables.now (length dead.old) self.index self.here × Subset places ((tables_in tables.now).held self.index)
+            × (is_subset (must_at tables.now self.index self.here) places ≡ true) }
+        ensures { Told self.index (attempted tables.now self.index self.here places dead.old) path.old result path.new dead.new }
+    {
+        if explore(
+            tables,
+            dead,
+            self.here.union(places),
+            places,
+            self.index + 1,
+            path,
+        ) {
+            path[self.index] = places.bits as u8;
             return true;
         }
+        false
     }
-    false
+
+    // Tries what a number takes of the row, with what is forced, where the slot may have it and it has what must run now.
+    #[cycle(search)]
+    fn try_number(
+        self,
+        tables: &[u16; TABLES],
+        dead: &mut [u8],
+        c: Choice,
+        row: &[u8; PLACES],
+        number: Set,
+        path: &mut [u8; MAX_SLOTS],
+    ) -> bool
+        requires { InSlot tables.now (length dead.old) self.index self.here × (self.must ≡ must_at tables.now self.index self.here)
+            × (number.bits < place_sets) × Takes ((tables_in tables.now).held self.index) c (chosen (row_from row.now max_width) number) }
+        ensures { Told self.index (numbered tables.now self.index self.here self.ran c (row_from row.now max_width) number dead.old)
+            path.old result path.new dead.new }
+    {
+        let Some(picked) = pick(tables, self.index, self.ran, row, number) else {
+            return false;
+        };
+        let places = c.forced.union(picked);
+        if !self.must.is_subset(places) {
+            return false;
+        }
+        self.try_set(tables, dead, places, path)
+    }
+
+    // The sets of a slot in the order of preference: those of the row by falling numbers, with just as many places as the choice says.
+    #[cycle(search)]
+    fn try_row(
+        self,
+        tables: &[u16; TABLES],
+        dead: &mut [u8],
+        c: Choice,
+        path: &mut [u8; MAX_SLOTS],
+    ) -> bool
+        requires { InSlot tables.now (length dead.old) self.index self.here × (self.must ≡ must_at tables.now self.index self.here)
+            × Subset c.forced ((tables_in tables.now).held self.index) × Subset c.among ((tables_in tables.now).held self.index) }
+        ensures { Told self.index (choice_tries tables.now self.index self.here self.ran c dead.old) path.old result path.new dead.new }
+    {
+        let mut row = [0; PLACES];
+        let size = by_number(tables, self.index, c.among, &mut row);
+        for number in numbers(size, c.count) {
+            if self.try_number(tables, dead, c, &row, number, path) {
+                return true;
+            }
+        }
+        false
+    }
 }
 
 // The sets of a slot. Most states do not branch: all candidates are the one set.
@@ -246,44 +234,38 @@ fn try_row(
 fn try_sets(
     tables: &[u16; TABLES],
     dead: &mut [u8],
-    here: Set,
     done: Set,
     ran: Set,
     slot: usize,
     path: &mut [u8; MAX_SLOTS],
 ) -> bool
-    requires { Opened tables.now (length dead.old) slot done ran × (here ≡ carried (tables_in tables.now) slot done) }
+    requires { Opened tables.now (length dead.old) slot done ran }
     ensures { Told slot (slot_tries tables.now slot done ran dead.old)
         path.old result path.new dead.new }
 {
+    let here = done.minus(set_at(tables, ENDS + slot));
     let c = candidates_at(tables, slot, here, done, ran);
-    let forced = c.forced;
-    let able = forced.union(c.tied);
+    let able = c.forced.union(c.tied);
     let due = set_at(tables, DUE + (slot + 1));
     let must = due.minus(here);
     if !must.is_subset(able) {
         return false;
     }
-    let shared = c.shared;
-    if shared.is_empty() {
-        if !exceeds(tables, c) {
-            return try_set(tables, dead, here, able, slot, path);
-        }
-    }
-    try_row(
-        tables,
-        dead,
+    let s = Slot {
+        index: slot,
         here,
         ran,
-        slot,
-        path,
-        choice_of(tables, c),
         must,
-    )
+    };
+    if c.shared.is_empty() && !exceeds(tables, c) {
+        return s.try_set(tables, dead, able, path);
+    }
+    s.try_row(tables, dead, choice_of(tables, c), path)
 }
 
 // The preferred plan from slot `slot` on: whether there is one, and its sets in `path`. All that is due before the slot is done.
 // `dead` has the marks of the states that were found to have none.
+// (The sets are written into the caller's array: the memory is fixed, and each slot would copy a plan that is handed back.)
 #[cycle(search)]
 pub fn explore(
     tables: &[u16; TABLES],
@@ -301,15 +283,14 @@ pub fn explore(
         ≡ written slot (explored_in tables.now slot done ran dead.old).plan.sets path.old }
     ensures dead { dead.new ≡ (explored_in tables.now slot done ran dead.old).dead }
 {
-    if slot == fields::index(tables[SLOTS]) {
+    if slot == usize::from(tables[SLOTS]) {
         return true;
     }
     let key = key_of(tables, slot, done, ran);
     if bitmap::marked(dead, key) {
         return false;
     }
-    let here = done.minus(set_at(tables, ENDS + slot));
-    if try_sets(tables, dead, here, done, ran, slot, path) {
+    if try_sets(tables, dead, done, ran, slot, path) {
         return true;
     }
     bitmap::mark(dead, key);

@@ -4,9 +4,6 @@
 ghost use Rattle.std.specs.Prelude.{◌≡◌, ◌*◌, ◌<◌, ◌≤◌, length};
 ghost use Rattle.bitmap.specs.Marks.{is_marked, with_mark, cleared};
 
-// The byte with each of its marks alone.
-const MARKS: [u8; 8] = [1, 2, 4, 8, 16, 32, 64, 128];
-
 // Is mark k set?
 pub fn marked(bytes: &[u8], k: usize) -> bool
     requires { k < 8 * length bytes.now }
@@ -22,8 +19,7 @@ pub fn mark(bytes: &mut [u8], k: usize)
     ensures { bytes.new ≡ with_mark bytes.old k }
 {
     let i = k / 8;
-    let byte = bytes[i];
-    bytes[i] = byte | MARKS[k % 8];
+    bytes[i] |= 1 << (k % 8);
 }
 
 // Clears the first n bytes.
@@ -31,9 +27,5 @@ pub fn clear(bytes: &mut [u8], n: usize)
     requires { n ≤ length bytes.old }
     ensures { bytes.new ≡ cleared n bytes.old }
 {
-    let mut i = 0;
-    while i < n {
-        bytes[i] = 0;
-        i += 1;
-    }
+    bytes[..n].fill(0);
 }

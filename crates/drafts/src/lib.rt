@@ -1,42 +1,20 @@
 // Small job files for test programs, written at the front of a lent array. Each job has the name `a` and level 0.
 #![tactic(auto)]
 
-ghost use Rattle.std.specs.Prelude.{◌≡◌, ◌+◌, ◌-◌, ◌*◌, ◌/◌, ◌<◌, ◌≤◌, take};
+ghost use Rattle.std.specs.Prelude.{◌≡◌, ◌+◌, ◌-◌, ◌*◌, ◌/◌, ◌<◌, ◌≤◌, length, take};
 
 use sizes::TABLE_BYTES;
 
-// A byte, where the array has its place.
-fn put(file: &mut [u8; TABLE_BYTES], at: usize, byte: u8) {
-    if at < TABLE_BYTES {
-        file[at] = byte;
-    }
-}
-
-// The head of a field: its tag and the length of its value.
-fn put_field(file: &mut [u8; TABLE_BYTES], at: usize, tag: u8, length: u8)
-    requires { at ≤ 7606 }
+// A field, behind so many bytes: its tag, the length of its value, and the value. Gives the length with it.
+fn put_field(file: &mut [u8; TABLE_BYTES], at: usize, tag: u8, value: &[u8]) -> usize
+    requires { (at + 3 + length value.now ≤ 7606) × (length value.now < 256) }
+    ensures { result ≡ at + 3 + length value.now }
 {
-    put(file, at, tag);
-    put(file, at + 1, length);
-    put(file, at + 2, 0);
-}
-
-// A job.
-fn put_job(file: &mut [u8; TABLE_BYTES], at: usize)
-    requires { at ≤ 7606 }
-{
-    put_field(file, at, 3, 3);
-    put(file, at + 3, 0);
-    put(file, at + 4, 0);
-    put(file, at + 5, b'a');
-}
-
-// Header and limit.
-fn put_front(file: &mut [u8; TABLE_BYTES], limit: u8) {
-    put_field(file, 0, 1, 1);
-    put(file, 3, 1);
-    put_field(file, 4, 2, 1);
-    put(file, 7, limit);
+    let start = at + 3;
+    let end = start + value.len();
+    file[at..start].copy_from_slice(&[tag, value.len() as u8, 0]);
+    file[start..end].copy_from_slice(value);
+    end
 }
 
 // Header, limit and so many jobs. Gives their length.
@@ -44,13 +22,10 @@ pub fn put_jobs(file: &mut [u8; TABLE_BYTES], limit: u8, count: usize) -> usize
     requires { count ≤ 401 }
     ensures { result ≡ 8 + 6 * count }
 {
-    put_front(file, limit);
-    let mut at = 8;
-    let mut i = 0;
-    while i < count {
-        put_job(file, at);
-        at += 6;
-        i += 1;
+    let mut at = put_field(file, 0, 1, &[1]);
+    at = put_field(file, at, 2, &[limit]);
+    for _ in 0..count {
+        at = put_field(file, at, 3, &[0, 0, b'a']);
     }
     at
 }
@@ -60,10 +35,7 @@ pub fn put_need(file: &mut [u8; TABLE_BYTES], at: usize, giver: u8, taker: u8) -
     requires { at ≤ 7601 }
     ensures { result ≡ at + 5 }
 {
-    put_field(file, at, 4, 2);
-    put(file, at + 3, giver);
-    put(file, at + 4, taker);
-    at + 5
+    put_field(file, at, 4, &[giver, taker])
 }
 
 // The most boards, behind so many bytes. Gives the length with them.
@@ -71,9 +43,7 @@ pub fn put_sockets(file: &mut [u8; TABLE_BYTES], at: usize, boards: u8) -> usize
     requires { at ≤ 7602 }
     ensures { result ≡ at + 4 }
 {
-    put_field(file, at, 9, 1);
-    put(file, at + 3, boards);
-    at + 4
+    put_field(file, at, 9, &[boards])
 }
 
 // A need with numbers of two bytes, behind so many bytes. Gives the length with it.
@@ -81,12 +51,9 @@ pub fn put_wide_need(file: &mut [u8; TABLE_BYTES], at: usize, giver: u16, taker:
     requires { at ≤ 7599 }
     ensures { result ≡ at + 7 }
 {
-    put_field(file, at, 6, 4);
-    put(file, at + 3, (giver % 256) as u8);
-    put(file, at + 4, (giver / 256) as u8);
-    put(file, at + 5, (taker % 256) as u8);
-    put(file, at + 6, (taker / 256) as u8);
-    at + 7
+    let [giver_low, giver_high] = giver.to_le_bytes();
+    let [taker_low, taker_high] = taker.to_le_bytes();
+    put_field(file, at, 6, &[giver_low, giver_high, taker_low, taker_high])
 }
 
 // A need to a later job, with numbers of one byte where one byte holds both, behind so many bytes. Gives the length with it.
@@ -107,10 +74,8 @@ pub fn put_chains(file: &mut [u8; TABLE_BYTES], from: usize, chains: u16, jobs: 
     ensures { result ≡ from + 5 * (jobs - chains) + 2 * (jobs - 255) }
 {
     let mut at = from;
-    let mut taker = 1 + chains;
-    while taker <= jobs {
+    for taker in 1 + chains..=jobs {
         at = put_short_need(file, at, taker - chains, taker);
-        taker += 1;
     }
     at
 }
@@ -119,9 +84,5 @@ pub fn put_chains(file: &mut [u8; TABLE_BYTES], from: usize, chains: u16, jobs: 
 pub fn front(file: &[u8; TABLE_BYTES], count: usize) -> &[u8]
     ensures { result.now ≡ take count file.now }
 {
-    let whole: &[u8] = file;
-    if count < TABLE_BYTES {
-        return &whole[..count];
-    }
-    whole
+    &file[..count.min(TABLE_BYTES)]
 }

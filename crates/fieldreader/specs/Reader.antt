@@ -1,28 +1,27 @@
 -- What each function of the field reader gives. Assumes nothing.
-use Rattle.std.specs.Prelude.{◌≡◌, List, ℕ, ◌+◌, length, T}
+use Rattle.std.specs.Prelude.{List, ℕ, ◌+◌, length, Option, Some, None, Result, Ok, Err}
 use Rattle.rules.specs.Basics.{choose, at}
 use Rattle.rules.specs.Fields.{field_end, value, whole}
 use Rattle.rules.specs.JobFile.{field_row, known_tag, in_place, length_ok}
+use Rattle.rules.specs.JobFile as rules
+use Rattle.refusals.specs.declared.Refusal.{Refusal}
+use Rattle.refusals.specs.declared.Refusal.TheVariants.{CutField, UnknownTag, MisplacedTag, BadValue}
 use Rattle.fieldreader.specs.declared.FieldRow.{FieldRow}
-use Rattle.fieldreader.specs.declared.FieldAnswer.{FieldAnswer}
-use Rattle.fieldreader.specs.declared.FieldAnswer.TheVariants.{Field, Refused}
+use Rattle.fieldreader.specs.declared.Field.{Field}
 
--- the number of a refusal; 0 for a field
-abbrev pub refusal_of : FieldAnswer → ℕ
-refusal_of (Field t s e) = 0
-refusal_of (Refused q) = q
+-- a row of the rules' table, as the code has it
+abbrev pub as_row : rules.FieldRow → FieldRow
+as_row r = record { tag = r.tag; least = r.least; greatest = r.greatest }
 
--- r is a row of the rules' table, and of a known tag its own
-pub record RowOf (tag : ℕ) (r : FieldRow) : Type 0 where
-  pub own : T (known_tag tag) → r.tag ≡ tag
-  pub known : T (known_tag r.tag)
-  pub least-is : r.least ≡ (field_row r.tag).least
-  pub greatest-is : r.greatest ≡ (field_row r.tag).greatest
+-- the row of the rules' table that a known tag has
+unfoldable pub row_of : ℕ → Option FieldRow
+row_of tag = choose (known_tag tag) (Some (as_row (field_row tag))) None
 
 -- questions 3 to 5 of the field at offset a behind `fields` others, and 6 of its length
-unfoldable pub field_at : List ℕ → ℕ → ℕ → FieldAnswer
+unfoldable pub field_at : List ℕ → ℕ → ℕ → Result Field Refusal
 field_at bs a fields =
     choose (whole bs a)
     (choose (known_tag (at bs a))
     (choose (in_place fields (at bs a))
-    (choose (length_ok (at bs a) (length (value bs a))) (Field (at bs a) (a + 3) (field_end bs a)) (Refused 6)) (Refused 5)) (Refused 4)) (Refused 3)
+    (choose (length_ok (at bs a) (length (value bs a)))
+    (Ok (record { tag = at bs a; start = a + 3; end = field_end bs a })) (Err BadValue)) (Err MisplacedTag)) (Err UnknownTag)) (Err CutField)

@@ -3,9 +3,10 @@
 
 ghost use Rattle.std.specs.Prelude.{◌≡◌, ◌<◌, length};
 ghost use Rattle.rules.specs.JobFile.{in_place};
-ghost use Rattle.fieldreader.specs.Reader.{RowOf, field_at, refusal_of};
+ghost use Rattle.fieldreader.specs.Reader.{row_of, field_at};
 
-use fields::wide;
+use fields::{is_whole, word_at};
+use refusals::Refusal;
 
 // A row of the table of fields: a tag with its shortest and longest value.
 #[derive(Clone, Copy)]
@@ -54,98 +55,65 @@ pub const ROWS: [FieldRow; 7] = [
     },
 ];
 
-// A field, its value from start to before end; or the number of the question that said no.
+// A field, its value from start to before end.
 #[derive(Clone, Copy)]
-pub enum FieldAnswer {
-    Field { tag: u8, start: usize, end: usize },
-    Refused(u8),
+pub struct Field {
+    pub tag: u8,
+    pub start: usize,
+    pub end: usize,
 }
 
 // Question 5.
+#[tactic(auto, unfolding(rules::specs::JobFile::in_place, rules::specs::Basics::choose))]
 fn in_place(fields: usize, tag: u8) -> bool
     ensures { result ≡ in_place fields tag }
 {
-    if 2 <= fields {
-        return 3 <= tag;
+    match fields {
+        0 => tag == 1,
+        1 => tag == 2,
+        _ => 3 <= tag,
     }
-    if fields == 0 {
-        return tag == 1;
-    }
-    tag == 2
 }
 
-// The row in which a tag is looked up: its own, or the last where it has none.
-fn row_of(tag: u8) -> FieldRow
-    ensures { RowOf tag result }
+// The row of a tag, where it has one.
+fn row_of(tag: u8) -> Option<FieldRow>
+    ensures { result ≡ row_of tag }
 {
-    if tag == 1 {
-        return ROWS[0];
-    }
-    if tag == 2 {
-        return ROWS[1];
-    }
-    if tag == 3 {
-        return ROWS[2];
-    }
-    if tag == 4 {
-        return ROWS[3];
-    }
-    if tag == 5 {
-        return ROWS[4];
-    }
-    if tag == 6 {
-        return ROWS[5];
-    }
-    ROWS[6]
+    // No `ROWS.iter().find(..)`: it takes three times the instructions (34 for each field in place of 11, in a loop of calls).
+    let row = match tag {
+        1 => ROWS[0],
+        2 => ROWS[1],
+        3 => ROWS[2],
+        4 => ROWS[3],
+        5 => ROWS[4],
+        6 => ROWS[5],
+        _ => ROWS[6],
+    };
+    if row.tag == tag { Some(row) } else { None }
 }
 
 // The field at offset `at` behind `fields` others: questions 3 to 5, and 6 of its length.
-pub fn field_at(file: &[u8], at: usize, fields: usize) -> FieldAnswer
+pub fn field_at(file: &[u8], at: usize, fields: usize) -> Result<Field, Refusal>
     requires { at < length file.now }
     ensures { result ≡ field_at file.now at fields }
 {
-    let n = file.len();
-    if n - at < 3 {
-        return FieldAnswer::Refused(3);
+    if !is_whole(file, at) {
+        return Err(Refusal::CutField);
     }
     let tag = file[at];
-    let len = wide(file[at + 1]) + 256 * wide(file[at + 2]);
-    let start = at + 3;
-    if n - start < len {
-        return FieldAnswer::Refused(3);
-    }
-    let row = row_of(tag);
-    if row.tag != tag {
-        return FieldAnswer::Refused(4);
-    }
+    let row = row_of(tag).ok_or(Refusal::UnknownTag)?;
     if !in_place(fields, tag) {
-        return FieldAnswer::Refused(5);
+        return Err(Refusal::MisplacedTag);
     }
-    let least = row.least as usize;
-    let greatest = row.greatest as usize;
-    if len < least {
-        return FieldAnswer::Refused(6);
+    let start = at + 3;
+    let word = word_at(file, at + 1);
+    let len = usize::from(word);
+    if !(usize::from(row.least)..=usize::from(row.greatest)).contains(&len) {
+        return Err(Refusal::BadValue);
     }
-    if greatest < len {
-        return FieldAnswer::Refused(6);
-    }
-    FieldAnswer::Field {
+    Ok(Field {
         tag,
         start,
         end: start + len,
-    }
-}
-
-// The number of a refusal; 0 for a field.
-pub fn refusal_of(f: FieldAnswer) -> u8
-    ensures { result ≡ refusal_of f }
-{
-    match f {
-        FieldAnswer::Refused(n) => n,
-        FieldAnswer::Field {
-            tag: _,
-            start: _,
-            end: _,
-        } => 0,
-    }
+    })
 }

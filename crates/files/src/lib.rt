@@ -1,7 +1,7 @@
 // Reading and writing the file that an argument names.
 #![tactic(auto)]
 
-ghost use Rattle.std.specs.Prelude.{◌≡◌, ◌≤◌, false, ◌⊎◌, length};
+ghost use Rattle.std.specs.Prelude.{◌≡◌, ◌≤◌, length, IfSome};
 ghost use Rattle.io.specs.Counts.{IsPrefixLen};
 
 use std::env::FillError;
@@ -10,15 +10,7 @@ use std::fs;
 use std::io::{Error, Read, Result, Write};
 use std::rt::{Env, Files};
 use std::str::from_utf8;
-
-const STDERR_FILENO: i32 = 2;
-
-// Whether the file could be read, and how many bytes of it stand at the start of the buffer.
-#[derive(Clone, Copy)]
-pub struct Contents {
-    pub ok: bool,
-    pub count: usize,
-}
+use streams::STDERR_FILENO;
 
 // How many arguments the program was started with, its own name among them; `most` where there are more. (How many there are, no clause can say.)
 pub fn argument_count(rt: &impl Env, most: usize) -> usize
@@ -41,14 +33,11 @@ fn has_argument(rt: &impl Env, i: usize) -> bool {
     }
 }
 
-// Puts argument i at the start of the buffer; gives its length, or 0 where it is missing or longer than the buffer.
-fn argument(rt: &impl Env, i: usize, buf: &mut [u8]) -> usize
-    ensures { IsPrefixLen result buf.new }
+// Puts argument i at the start of the buffer; gives its length, or none where it is missing or longer than the buffer.
+fn argument(rt: &impl Env, i: usize, buf: &mut [u8]) -> Option<usize>
+    ensures { IfSome result (λ n. IsPrefixLen n buf.new) }
 {
-    match rt.arg(i, buf) {
-        Ok(n) => n,
-        Err(_) => 0,
-    }
+    rt.arg(i, buf).ok()
 }
 
 // Writes a line to standard error: the name of a file, and what went wrong with it.
@@ -98,42 +87,37 @@ fn open_overwrite<R: Files>(rt: &R, name: &[u8]) -> Option<R::File> {
     opened(name, fs::create(rt, path(name)?))
 }
 
-// Reads until the buffer is full or the input ends. Where it cannot be read, a line on standard error says why.
-fn fill<F: Read>(file: &mut F, name: &[u8], buf: &mut [u8]) -> Contents
-    ensures { IsPrefixLen result.count buf.new × (result.ok ≡ false → result.count ≡ 0) }
+// Reads until the buffer is full or the input ends; gives how many bytes stand at its start then. Where it cannot be read, a line on standard error says
+// why.
+fn fill<F: Read>(file: &mut F, name: &[u8], buf: &mut [u8]) -> Option<usize>
+    ensures { IfSome result (λ n. IsPrefixLen n buf.new) }
 {
     let mut count = 0;
+    // No `for`: how many bytes a read brings is known only behind it.
     while count < buf.len() {
         match file.read(&mut buf[count..]) {
-            Ok(0) => return Contents { ok: true, count },
+            Ok(0) => return Some(count),
             Ok(more) => {
                 count += more;
             }
             Err(error) => {
                 fail_by(name, error);
-                return Contents {
-                    ok: false,
-                    count: 0,
-                };
+                return None;
             }
         }
     }
-    Contents { ok: true, count }
+    Some(count)
 }
 
-// Puts the file that argument i names, or as much of it as fits, at the start of the buffer. Where it cannot be read, a line on standard error says why.
-pub fn read_argument(rt: &(impl Env + Files), i: usize, buf: &mut [u8]) -> Contents
-    ensures { IsPrefixLen result.count buf.new × (result.ok ≡ false → result.count ≡ 0) }
+// Puts the file that argument i names, or as much of it as fits, at the start of the buffer; gives how many bytes that are. Where it cannot be read, a line
+// on standard error says why. An argument that is missing, or longer than a path may be, is the empty path.
+pub fn read_argument(rt: &(impl Env + Files), i: usize, buf: &mut [u8]) -> Option<usize>
+    ensures { IfSome result (λ n. IsPrefixLen n buf.new) }
 {
     let mut path = io::buffer();
-    let n = argument(rt, i, &mut path);
-    match open_read(rt, &path[..n]) {
-        Some(mut file) => fill(&mut file, &path[..n], buf),
-        None => Contents {
-            ok: false,
-            count: 0,
-        },
-    }
+    let n = argument(rt, i, &mut path).unwrap_or(0);
+    let mut file = open_read(rt, &path[..n])?;
+    fill(&mut file, &path[..n], buf)
 }
 
 // Whether all of these bytes were written; where they were not, a line on standard error says why.
@@ -147,16 +131,14 @@ fn put<F: Write>(file: &mut F, name: &[u8], bytes: &[u8]) -> bool {
     }
 }
 
-// Writes these bytes to the file that argument i names, in place of what it held; gives how many they are, or 0 where not all of them were written, and
-// a line on standard error says why.
-pub fn write_argument(rt: &(impl Env + Files), i: usize, bytes: &[u8]) -> usize
-    ensures { (result ≡ 0) ⊎ (result ≡ length bytes.now) }
+// Writes these bytes to the file that argument i names, in place of what it held; gives how many they are, or none where not all of them were written, and a
+// line on standard error says why.
+pub fn write_argument(rt: &(impl Env + Files), i: usize, bytes: &[u8]) -> Option<usize>
+    ensures { IfSome result (λ n. n ≡ length bytes.now) }
 {
     let mut path = io::buffer();
-    let n = argument(rt, i, &mut path);
-    let Some(mut file) = open_overwrite(rt, &path[..n]) else {
-        return 0;
-    };
+    let n = argument(rt, i, &mut path).unwrap_or(0);
+    let mut file = open_overwrite(rt, &path[..n])?;
     let written = put(&mut file, &path[..n], bytes);
-    if written { bytes.len() } else { 0 }
+    if written { Some(bytes.len()) } else { None }
 }

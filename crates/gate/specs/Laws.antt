@@ -1,7 +1,7 @@
 -- The numbers of the answers are those of the rules, and the name's number says where it stands. Assumes nothing.
-use Rattle.std.specs.Prelude.{◌≡◌, List, ℕ, zero, suc, ◌+◌, ◌-◌, ◌*◌, ◌/◌, ◌%◌, ◌≤◌, ◌<◌, take, drop}
+use Rattle.std.specs.Prelude.{◌≡◌, ◌⊎◌, Option, Some, None, IfSome, Result, Ok, Err, List, ℕ, zero, suc, ◌+◌, ◌-◌, ◌*◌, ◌/◌, ◌%◌, ◌≤◌, ◌<◌, take, drop}
 use Rattle.std.proofs.Math.Path.{refl}
-use Rattle.std.proofs.Common.{sym, ap, ◌∙◌, arith}
+use Rattle.std.proofs.Common.{sym, ap, ◌∙◌, arith, subst, inl, inr}
 use Rattle.rules.specs.Sizes.{table_size}
 use Rattle.rules.specs.Basics.{at}
 use Rattle.rules.specs.Fields.{Answer, refused, got, number_of, part}
@@ -13,37 +13,35 @@ use Rattle.laws.specs.Numbers.{bytes-all}
 use Rattle.laws.proofs.Demands.{plan-size, table-has-bytes}
 use Rattle.laws.specs.States.{states-each}
 use Rattle.planner.specs.Planner.{outcome_of}
-use Rattle.planner.specs.declared.Planned.{Planned}
-use Rattle.planner.specs.declared.Planned.TheVariants as planned
-use Rattle.table.specs.Entries.{verdict_of, found_of, place_of}
+use Rattle.refusals.specs.declared.Refusal.{Refusal}
+use Rattle.refusals.specs.Refusals.{number, no-zero, answer_of, refusal_number, number-answered}
+use Rattle.table.specs.Entries.{found_of, passed_of, place_of, number-passed}
 use Rattle.table.specs.Names.{name-lies}
-use Rattle.gate.specs.Numbers.{planned_number, planned_size, answer_number, verdict_number, found_number, refusal_number, place_number}
+use Rattle.gate.specs.Numbers.{planned_size, said_number, answer_number, found_number, place_number}
+use Rattle.std.specs.Result.{result_err}
 use Rattle.gate.specs.Numbers.{plan_number, lookup_number, name_number}
 
 -- the number and the size in the planner's answer are those of the rules' outcome
-pub planned-number : (p : Planned) (work table : List ℕ) (o : Outcome) → outcome_of p work table ≡ o → (planned_number p ≡ o.number) × (planned_size p ≡ o.size)
-unfolding planned_number planned_size
-planned-number (planned.Table k) work table o e = (ap (λ (x : Outcome). x.number) e, ap (λ (x : Outcome). x.size) e)
-planned-number (planned.Refused q) work table o e = (ap (λ (x : Outcome). x.number) e, ap (λ (x : Outcome). x.size) e)
+pub planned-number : (p : Result ℕ Refusal) (work table : List ℕ) (o : Outcome) → outcome_of p work table ≡ o
+    → (refusal_number p ≡ o.number) × (planned_size p ≡ o.size)
+planned-number (Ok k) work table o e = (ap (λ (x : Outcome). x.number) e, ap (λ (x : Outcome). x.size) e)
+planned-number (Err q) work table o e = (ap (λ (x : Outcome). x.number) e, ap (λ (x : Outcome). x.size) e)
 
 -- and so is its one number: a refusal's is not 0, since a table has bytes
-pub answer-number : (p : Planned) (work table : List ℕ) (o : Outcome) → outcome_of p work table ≡ o → (o.number ≡ 0 → 0 < o.size)
+pub answer-number : (p : Result ℕ Refusal) (work table : List ℕ) (o : Outcome) → outcome_of p work table ≡ o → (o.number ≡ 0 → 0 < o.size)
     → answer_number p ≡ plan_number o
 unfolding answer_number plan_number
-answer-number (planned.Table k) work table o e has-bytes = sym (ap plan_number (sym e) ∙ choose_yes _ _ _ ((T-eqb 0 0).1 refl))
-answer-number (planned.Refused q) work table o e has-bytes = sym (ap plan_number (sym e) ∙ choose_no _ _ _ (λ t. no_table ((T-eqb q 0).0 t)))
-  where
-    no_table : q ≡ 0 → ⊥
-    no_table z = omega (arith, ap (λ (x : Outcome). x.size) e, has-bytes (sym (ap (λ (x : Outcome). x.number) e) ∙ z))
+answer-number (Ok k) work table o e has-bytes = sym (ap plan_number (sym e) ∙ choose_yes _ _ _ ((T-eqb 0 0).1 refl))
+answer-number (Err q) work table o e has-bytes = sym (ap plan_number (sym e) ∙ choose_no _ _ _ (λ t. no-zero q ((T-eqb (number q) 0).0 t)))
 
 -- a table is no longer than the outcome's
-pub size_few : (p : Planned) (work table : List ℕ) (o : Outcome) → outcome_of p work table ≡ o → o.size ≤ table_size → planned_size p ≤ table_size
+pub size_few : (p : Result ℕ Refusal) (work table : List ℕ) (o : Outcome) → outcome_of p work table ≡ o → o.size ≤ table_size → planned_size p ≤ table_size
 size_few p work table o e few = omega (arith, (planned-number p work table o e).1)
 
 -- both buffers are the outcome's
-pub buffers-left : (p : Planned) (work table : List ℕ) (o : Outcome) → outcome_of p work table ≡ o → (work ≡ o.work) × (table ≡ o.table)
-buffers-left (planned.Table k) work table o e = (ap (λ (x : Outcome). x.work) e, ap (λ (x : Outcome). x.table) e)
-buffers-left (planned.Refused q) work table o e = (ap (λ (x : Outcome). x.work) e, ap (λ (x : Outcome). x.table) e)
+pub buffers-left : (p : Result ℕ Refusal) (work table : List ℕ) (o : Outcome) → outcome_of p work table ≡ o → (work ≡ o.work) × (table ≡ o.table)
+buffers-left (Ok k) work table o e = (ap (λ (x : Outcome). x.work) e, ap (λ (x : Outcome). x.table) e)
+buffers-left (Err q) work table o e = (ap (λ (x : Outcome). x.work) e, ap (λ (x : Outcome). x.table) e)
 
 -- the length of a table is small, and that of a table with state numbers
 pub plan-few : (file work table : List ℕ) → ((i : ℕ) → at file i < 256) → (plan file work table).size ≤ table_size
@@ -59,15 +57,9 @@ states-have-bytes file work table states =
     states-each file work table states (λ (o : Outcome). o.number ≡ 0 → 0 < o.size) (table-has-bytes file work table) (λ z. absurd (omega arith))
 
 -- where there is a table, nothing was refused
-pub size_number : (p : Planned) → (planned_size p ≡ 0 → ⊥) → planned_number p ≡ 0
-unfolding planned_number planned_size
-size_number (planned.Table k) h = refl
-size_number (planned.Refused q) h = absurd (h refl)
-
-pub verdict-number : (x : Answer Table) → verdict_number (verdict_of x) ≡ number_of x
-unfolding verdict_number verdict_of number_of
-verdict-number (refused q) = refl
-verdict-number (got t) = refl
+pub size_number : (p : Result ℕ Refusal) → (planned_size p ≡ 0 → ⊥) → refusal_number p ≡ 0
+size_number (Ok k) h = refl
+size_number (Err q) h = absurd (h refl)
 
 pub found_number_lem : (x : Answer ℕ) → found_number (found_of x) ≡ lookup_number x
 unfolding found_number found_of lookup_number
@@ -98,8 +90,28 @@ name-at bs s b = go (lookup bs s b) refl
 -- ---- the lookup's refusals
 
 -- the number of a refusal is that of the rules' answer
-pub refusal-number-is : (x : Answer ℕ) → refusal_number (found_of x) ≡ number_of x
-unfolding refusal_number found_of number_of
-refusal-number-is (refused q) = refl
-refusal-number-is (got zero) = refl
-refusal-number-is (got (suc i)) = refl
+pub refusal-number-is : (r : Result (Option ℕ) Refusal) (x : Answer ℕ) → answer_of r ≡ found_of x → refusal_number r ≡ number_of x
+refusal-number-is r x e = number-answered r ∙ ap number_of e ∙ same x
+  where
+    same : (a : Answer ℕ) → number_of (found_of a) ≡ number_of a
+    same (refused q) = unfold number_of found_of in refl
+    same (got zero) = unfold number_of found_of in refl
+    same (got (suc i)) = unfold number_of found_of in refl
+
+-- ---- the check's refusals
+
+pub check-number-is : (r : Result (Unit {0}) Refusal) (x : Answer Table) → answer_of r ≡ passed_of x → refusal_number r ≡ number_of x
+check-number-is r x e = number-answered r ∙ ap number_of e ∙ number-passed x
+
+-- ---- the question that a program prints
+
+-- its number is that of the answer
+pub said-number : {A : Type 0} (r : Result A Refusal) → said_number (result_err r) ≡ refusal_number r
+said-number (Ok a) = refl
+said-number (Err q) = refl
+
+-- a question that said no has a number that is not 0
+pub said-in : (P : ℕ → Type 0) (r : Option Refusal) (n : ℕ) → said_number r ≡ n → (n ≡ 0) ⊎ P n → IfSome r (λ q. P (number q))
+said-in P None n e h = tt
+said-in P (Some q) n e (inl z) = absurd (no-zero q (e ∙ z))
+said-in P (Some q) n e (inr p) = subst P (sym e) p

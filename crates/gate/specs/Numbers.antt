@@ -1,54 +1,38 @@
 -- The numbers that the forms for C give. Assumes nothing.
-use Rattle.std.specs.Prelude.{List, ℕ, ◌+◌, ◌-◌, ◌*◌, eqb}
+use Rattle.std.specs.Prelude.{Option, Some, None, Result, Ok, Err, List, ℕ, ◌+◌, ◌-◌, ◌*◌, eqb}
+use Rattle.std.specs.Option.{unwrap_or}
+use Rattle.std.specs.Result.{result_unwrap_or}
 use Rattle.rules.specs.Basics.{choose}
 use Rattle.rules.specs.Fields.{Answer, refused, got}
 use Rattle.rules.specs.Answers.{Outcome, name_span}
-use Rattle.planner.specs.declared.Planned.{Planned}
-use Rattle.planner.specs.declared.Planned.TheVariants as planned
-use Rattle.table.specs.declared.Verdict.{Verdict}
-use Rattle.table.specs.declared.Verdict.TheVariants as verdict
-use Rattle.table.specs.declared.places.Found.{Found}
-use Rattle.table.specs.declared.places.Found.TheVariants as found
+use Rattle.refusals.specs.declared.Refusal.{Refusal}
+use Rattle.refusals.specs.Refusals.{number}
 use Rattle.table.specs.declared.places.Place.{Place}
-use Rattle.table.specs.declared.places.Place.TheVariants as place
-
--- the number of each answer of the planner: 0 for a table
-unfoldable pub planned_number : Planned → ℕ
-planned_number (planned.Table n) = 0
-planned_number (planned.Refused q) = q
 
 -- the size of the table that each answer of the planner leaves: 0 where there is none
-unfoldable pub planned_size : Planned → ℕ
-planned_size (planned.Table n) = n
-planned_size (planned.Refused q) = 0
+abbrev pub planned_size : Result ℕ Refusal → ℕ
+planned_size p = result_unwrap_or p 0
+
+-- the number of the question that says no, where one does, or 0
+abbrev pub said_number : Option Refusal → ℕ
+said_number None = 0
+said_number (Some r) = number r
 
 -- each answer of the planner as one number
-unfoldable pub answer_number : Planned → ℕ
-answer_number (planned.Table n) = n
-answer_number (planned.Refused q) = 65536 + q
-
--- the number of each verdict: 0 passes
-unfoldable pub verdict_number : Verdict → ℕ
-verdict_number verdict.Passes = 0
-verdict_number (verdict.Refused q) = q
+unfoldable pub answer_number : Result ℕ Refusal → ℕ
+answer_number (Ok n) = n
+answer_number (Err r) = 65536 + number r
 
 -- the number of each answer of the lookup
-unfoldable pub found_number : Found → ℕ
-found_number (found.Job j) = j
-found_number found.Idle = 0
-found_number (found.Refused q) = 65536 + q
-
--- the number of a refusal of the lookup: 0 where it is none
-unfoldable pub refusal_number : Found → ℕ
-refusal_number (found.Job j) = 0
-refusal_number found.Idle = 0
-refusal_number (found.Refused q) = q
+unfoldable pub found_number : Answer (Option ℕ) → ℕ
+found_number (refused q) = 65536 + q
+found_number (got j) = unwrap_or j 0
 
 -- the number of each place of a name: offset times 65536, plus length
-unfoldable pub place_number : Place → ℕ
-place_number (place.Name j a e) = a * 65536 + (e - a)
-place_number place.Idle = 0
-place_number (place.Refused q) = 0
+unfoldable pub place_number : Answer (Option Place) → ℕ
+place_number (refused q) = 0
+place_number (got None) = 0
+place_number (got (Some p)) = p.start * 65536 + (p.end - p.start)
 
 -- ---- the same of the rules' answers
 

@@ -9,19 +9,19 @@ ghost use Rattle.rules.specs.Answers.{plan as Answers·plan, check as Answers·c
 ghost use Rattle.rules.specs.States.{plan_states};
 ghost use Rattle.gate.specs.Numbers.{planned_size, answer_number, plan_number, lookup_number, name_number};
 
-pub use planner::{Planned, plan};
+pub use planner::plan;
+pub use refusals::Refusal;
 pub use statenumbers::state_numbers;
-use table::Place;
-pub use table::{Found, Verdict, check, lookup, name};
+pub use table::{check, lookup, name};
 
 // An answer of the planner as one number: the length of the table; or 65536 and the number of the question that said no.
-fn answer_number(p: Planned) -> u32
+fn answer_number(p: Result<usize, Refusal>) -> u32
     requires { planned_size p ≤ table_size }
     ensures { result ≡ answer_number p }
 {
     match p {
-        Planned::Table(size) => size as u32,
-        Planned::Refused(number) => 65536 + (number as u32),
+        Ok(size) => size as u32,
+        Err(refusal) => 65536 + u32::from(refusal.number()),
     }
 }
 
@@ -49,22 +49,23 @@ pub fn gate_states(file: &[u8], work: &mut [u8], table: &mut [u8], states: &mut 
 pub fn gate_check(file: &[u8], table: &[u8]) -> u32
     ensures { result ≡ number_of (Answers·check file.now table.now) }
 {
-    let v = check(file, table);
-    match v {
-        Verdict::Passes => 0,
-        Verdict::Refused(number) => number as u32,
+    match check(file, table) {
+        Ok(()) => 0,
+        Err(refusal) => u32::from(refusal.number()),
     }
 }
+
+// The lookup's answer where the board is idle: jobs are counted from 1.
+const IDLE: u32 = 0;
 
 // 0 where the board is idle; the job number, from 1; or 65536 and the number of the question that said no.
 pub fn gate_lookup(table: &[u8], slot: usize, board: usize) -> u32
     ensures { result ≡ lookup_number (Answers·lookup table.now slot board) }
 {
-    let f = lookup(table, slot, board);
-    match f {
-        Found::Job(job) => job as u32,
-        Found::Idle => 0,
-        Found::Refused(number) => 65536 + (number as u32),
+    match lookup(table, slot, board) {
+        Ok(Some(job)) => job as u32,
+        Ok(None) => IDLE,
+        Err(question) => 65536 + u32::from(question.number()),
     }
 }
 
@@ -72,10 +73,9 @@ pub fn gate_lookup(table: &[u8], slot: usize, board: usize) -> u32
 pub fn gate_name_at(table: &[u8], slot: usize, board: usize) -> u32
     ensures { result ≡ name_number table.now (Answers·lookup table.now slot board) }
 {
-    let p = table::find(table, slot, board);
-    match p {
-        Place::Name { job: _, start, end } => (start as u32) * 65536 + ((end - start) as u32),
-        Place::Idle => 0,
-        Place::Refused(_) => 0,
+    match table::find(table, slot, board) {
+        Ok(Some(place)) => (place.start as u32) * 65536 + ((place.end - place.start) as u32),
+        Ok(None) => 0,
+        Err(_) => 0,
     }
 }

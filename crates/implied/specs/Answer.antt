@@ -1,5 +1,5 @@
 -- The ways out of `implied_needs`, by what it has tested. Assumes nothing.
-use Rattle.std.specs.Prelude.{◌≡◌, Bool, true, false, ℕ, ◌-◌, ◌/◌, ◌≤◌, ◌<◌, leb}
+use Rattle.std.specs.Prelude.{◌≡◌, Bool, true, false, ℕ, ◌-◌, ◌/◌, ◌≤◌, ◌<◌, leb, Result, Ok, Err}
 use Rattle.std.proofs.Math.Path.{refl, sym, ap, ap₂}
 use Rattle.std.proofs.Common.{◌∙◌}
 use mathlib.Core.List.{List}
@@ -14,19 +14,19 @@ use Rattle.rules.specs.Implied.{implied_needs, implied_in, Listing, pair_numbers
 use Rattle.laws.specs.Tests.{T_true, T-leb, choose_yes, choose_no}
 use Rattle.laws.specs.Writing.{put, put_front}
 use Rattle.laws.specs.Numbers.{bytes-all}
-use Rattle.laws.specs.Fields.{number-refused}
 use Rattle.laws.specs.JobFile.{readable, needs-in}
-use Rattle.laws.proofs.Refusals.{read-got}
 use Rattle.laws.specs.Circles.{circle-free}
 use Rattle.laws.specs.Implied.{pairs-length}
 use Rattle.laws.proofs.Implied.{list-fits}
 use Rattle.needrows.specs.Rows.{rows_size, RowsAre}
+use Rattle.refusals.specs.declared.Refusal.{Refusal}
+use Rattle.refusals.specs.declared.Refusal.TheVariants.{ShortBuffer, Circle as Circle·refused}
+use Rattle.refusals.specs.Refusals.{number}
 use Rattle.jobfile.specs.declared.Counts.{Counts}
 use Rattle.jobfile.specs.Reading.{state_of, Held, Reads}
+use Rattle.jobfile.specs.Whole.{reads-no, reads-yes}
 use Rattle.releases.specs.Ordered.{OfNeeds, OrderOf, Peeled}
 use Rattle.releases.specs.Sorted.{rows_of}
-use Rattle.implied.specs.declared.Listed.{Listed}
-use Rattle.implied.specs.declared.Listed.TheVariants.{Pairs, Refused}
 use Rattle.implied.specs.Beyond.{RowsThere, BeyondAre}
 use Rattle.implied.specs.Listing.{follows_from, rows_from, listing_of, listed_number}
 use Rattle.implied.specs.ListingLaws.{follows-are}
@@ -34,7 +34,7 @@ use Rattle.implied.specs.ListingLaws.{follows-are}
 -- ---- the ways out
 
 -- question 1
-pub no_room : (file list : List ℕ) → length list < pairs_size → listing_of (Refused 1) list ≡ list_implied file list
+pub no_room : (file list : List ℕ) → length list < pairs_size → listing_of (Err ShortBuffer) list ≡ list_implied file list
 unfolding list_implied listing_of
 no_room file list h = sym (choose_no (leb pairs_size (length list)) _ _ (λ t. omega (arith, (T-leb pairs_size (length list)).0 t)))
 
@@ -44,29 +44,27 @@ module _ (file list : List ℕ) (room : pairs_size ≤ length list) where
   unfolding list_implied
   leads r e = choose_yes (leb pairs_size (length list)) _ _ ((T-leb pairs_size (length list)).1 room) ∙ ap (λ (x : Answer (List Need)). listed x list) e
 
-  -- a refusal by question q
-  refused-by : (q : ℕ) → implied_in file ≡ refused q → listing_of (Refused q) list ≡ list_implied file list
+  -- a refusal by a question
+  refused-by : (q : Refusal) → implied_in file ≡ refused (number q) → listing_of (Err q) list ≡ list_implied file list
   unfolding listed listing_of
-  refused-by q e = sym (leads (refused q) e)
+  refused-by q e = sym (leads (refused (number q)) e)
 
   -- questions 2 to 10, and 21
-  pub file-refused : (F : Counts) (offsets takers : List ℕ) → Reads file F offsets takers → (F.number ≡ 0 → ⊥)
-      → listing_of (Refused F.number) list ≡ list_implied file list
+  pub file-refused : (q : Refusal) (offsets takers : List ℕ) → Reads file (Err q) offsets takers → listing_of (Err q) list ≡ list_implied file list
   unfolding implied_in after
-  file-refused F offsets takers reads n = refused-by F.number (rw (number-refused (read_file file) F.number reads.number_is n) refl)
+  file-refused q offsets takers reads = refused-by q (rw (reads-no file q offsets takers reads) refl)
 
 -- there is room for a list, and the file is read
 pub record FileRead (file list : List ℕ) (F : Counts) (offsets takers : List ℕ) : Type 0 where
   pub room : pairs_size ≤ length list
   pub bytes : (i : ℕ) → at file i < 256
-  pub reads : Reads file F offsets takers
+  pub reads : Reads file (Ok F) offsets takers
   pub rows-room : rows_size ≤ length takers
-  pub ok : F.number ≡ 0
 
 module _ {file list : List ℕ} {F : Counts} {offsets takers : List ℕ} (r : FileRead file list F offsets takers) where
-  -- what it says
-  file-got : (f : JobFile) × (read_file file ≡ got f)
-  file-got = read-got file (sym r.reads.number_is ∙ r.ok)
+  -- what it says, and what the reader holds of it
+  file-got : (f : JobFile) × (read_file file ≡ got f) × Held file f (state_of F offsets takers)
+  file-got = reads-yes file F offsets takers r.reads
 
   -- how many jobs it has, and its needs
   abbrev n : ℕ
@@ -75,9 +73,8 @@ module _ {file list : List ℕ} {F : Counts} {offsets takers : List ℕ} (r : Fi
   needs : List Need
   needs = file-got.0.needs
 
-  -- what the reader holds of it
   held : Held file file-got.0 (state_of F offsets takers)
-  held = r.reads.held file-got.0 file-got.1
+  held = file-got.2
 
   -- the needs are between its jobs
   file-needs : NeedsIn n needs
@@ -126,9 +123,9 @@ module _ {file list : List ℕ} {F : Counts} {offsets takers : List ℕ} (r : Fi
     asked = rw file-got.1 (rw (← held.jobs-is) (rw free-is refl))
 
     -- question 11
-    pub circle : ok ≡ false → listing_of (Refused 11) list ≡ list_implied file list
+    pub circle : ok ≡ false → listing_of (Err Circle·refused) list ≡ list_implied file list
     unfolding ask
-    circle e = refused-by file list r.room 11 (asked ∙ rw e refl)
+    circle e = refused-by file list r.room Circle·refused (asked ∙ rw e refl)
 
   module _ {order : List ℕ} (no-circle : NoCircle order) where
     free : ¬ (Circle needs)
@@ -167,7 +164,7 @@ module _ {file list : List ℕ} {F : Counts} {offsets takers : List ℕ} (r : Fi
       )
 
       -- the list is written
-      pub all_listed : listing_of (Pairs (length rows / 2)) (put 0 rows list) ≡ list_implied file list
+      pub all_listed : listing_of (Ok (length rows / 2)) (put 0 rows list) ≡ list_implied file list
       unfolding ask listed listing_of
       all_listed =
           let ds = implied_needs n needs in
@@ -178,10 +175,10 @@ module _ {file list : List ℕ} {F : Counts} {offsets takers : List ℕ} (r : Fi
 -- ---- the number
 
 -- it is that of the rules' listing
-pub listed-number : (file list after : List ℕ) (l : Listed) → listing_of l after ≡ list_implied file list
-    → listed_number l ≡ number_of (list_implied file list).answer
-listed-number file list after l e = number l ∙ ap (λ (x : Listing). number_of x.answer) e
+pub listed-number : (file list after : List ℕ) (r : Result ℕ Refusal) → listing_of r after ≡ list_implied file list
+    → listed_number r ≡ number_of (list_implied file list).answer
+listed-number file list after r e = same r ∙ ap (λ (x : Listing). number_of x.answer) e
   where
-    number : (l : Listed) → listed_number l ≡ number_of (listing_of l after).answer
-    number (Pairs n) = unfold listed_number listing_of number_of in refl
-    number (Refused q) = unfold listed_number listing_of number_of in refl
+    same : (r : Result ℕ Refusal) → listed_number r ≡ number_of (listing_of r after).answer
+    same (Ok n) = unfold listed_number listing_of number_of in refl
+    same (Err q) = unfold listed_number listing_of number_of in refl

@@ -1,16 +1,15 @@
 -- What the functions that write the list give. Assumes nothing.
 use mathlib.Core.List.{List, [], ◌++◌, map, Memᴰ}
-use Rattle.std.specs.Prelude.{ℕ, zero, suc, ◌-◌, ◌<◌}
+use Rattle.std.specs.Prelude.{ℕ, zero, suc, ◌-◌, ◌<◌, Result}
 use Rattle.rules.specs.Sizes.{max_jobs}
 use Rattle.rules.specs.Basics.{filter}
-use Rattle.rules.specs.Fields.{refused, got}
 use Rattle.rules.specs.Needs.{Need}
 use Rattle.rules.specs.Implied.{Listing, pair_numbers}
 use Rattle.jobset.specs.declared.Set.{Set}
 use Rattle.jobset.specs.Sets.{intersection}
 use Rattle.needrows.specs.Rows.{word_at, takers_behind}
-use Rattle.implied.specs.declared.Listed.{Listed}
-use Rattle.implied.specs.declared.Listed.TheVariants.{Pairs, Refused}
+use Rattle.refusals.specs.declared.Refusal.{Refusal}
+use Rattle.refusals.specs.Refusals.{answer_of, refusal_number}
 use Rattle.implied.specs.Beyond.{in_row}
 
 -- the numbers of the pairs of giver g with the takers ks
@@ -47,11 +46,9 @@ abbrev pub rows_from : List ℕ → List ℕ → ℕ → ℕ → List ℕ
 rows_from takers beyond n g = pair_numbers (follows_from takers beyond n (n - g) g)
 
 -- an answer, with the list that it leaves
-unfoldable pub listing_of : Listed → List ℕ → Listing
-listing_of (Pairs n) list = record { answer = got n; list = list }
-listing_of (Refused q) list = record { answer = refused q; list = list }
+unfoldable pub listing_of : Result ℕ Refusal → List ℕ → Listing
+listing_of r list = record { answer = answer_of r; list = list }
 
 -- the number of each answer: 0 for a list
-unfoldable pub listed_number : Listed → ℕ
-listed_number (Pairs n) = 0
-listed_number (Refused q) = q
+unfoldable pub listed_number : Result ℕ Refusal → ℕ
+listed_number r = refusal_number r

@@ -11,67 +11,37 @@ ghost use Rattle.rules.specs.Implied.{pair_numbers, list_implied};
 ghost use Rattle.laws.specs.Writing.{put};
 ghost use Rattle.needrows.specs.Rows.{row_bytes, takers_of};
 ghost use Rattle.releases.specs.Ordered.{OrderOf};
-ghost use Rattle.releases.specs.Peels.{numbered};
 ghost use Rattle.implied.specs.Beyond.{Others, RowsThere, Joined, BeyondAre};
-ghost use Rattle.implied.specs.Listing.{pairs_of, Few, row_from, rows_from, listing_of};
+ghost use Rattle.implied.specs.Listing.{row_from, rows_from, listing_of};
 
-use jobset::Set;
-use needrows::{ROW_BYTES, ROWS_BYTES, WORD_BITS, word, words};
+use needrows::{ROW_BYTES, ROWS_BYTES};
+use refusals::Refusal;
 use sizes::{MAX_JOBS, PAIR_ENTRIES};
 
-// A list of so many pairs; or the number of the question that said no.
-#[derive(Clone, Copy)]
-pub enum Listed {
-    Pairs(usize),
-    Refused(u8),
-}
+// The marks of a row.
+const ROW_BITS: usize = 8 * ROW_BYTES;
 
 // ---- what stands beyond each job
 
-// Beyond the giver comes what the taker leads to: its takers, and what stands beyond it.
+// Beyond the giver comes what the taker leads to: its takers, and what stands beyond it. (Both rows of `beyond` are in one slice: so by index.)
 fn add_taker(takers: &[u8], jobs: usize, giver: usize, taker: usize, beyond: &mut [u8])
-    requires { RowsThere takers.now jobs beyond.old × (giver < jobs) × Others jobs giver (taker ∷ []) }
+    requires { RowsThere takers.now jobs beyond.old × (giver < jobs) × (taker < jobs) × (taker ≡ giver → ⊥) }
     ensures { Joined takers.now jobs giver (taker ∷ []) beyond.old beyond.new }
 {
     let to = ROW_BYTES * giver;
     let from = ROW_BYTES * taker;
-    let count = (jobs + 7) / 8;
-    let mut i = 0;
-    while i < count {
+    for i in 0..jobs.div_ceil(8) {
         beyond[to + i] = beyond[to + i] | takers[from + i] | beyond[from + i];
-        i += 1;
-    }
-}
-
-// The same of the takers in a word of the giver's row, numbered from `first`.
-fn add_word(takers: &[u8], jobs: usize, giver: usize, first: usize, some: Set, beyond: &mut [u8])
-    requires { RowsThere takers.now jobs beyond.old × (giver < jobs) × Others jobs giver (numbered first some) }
-    ensures { Joined takers.now jobs giver (numbered first some) beyond.old beyond.new }
-{
-    let mut rest = some;
-    while !rest.is_empty() {
-        let taker = first + rest.lowest() as usize;
-        add_taker(takers, jobs, giver, taker, beyond);
-        rest = rest.rest();
     }
 }
 
 // The same of all takers of the giver.
-fn add_row(takers: &[u8], jobs: usize, giver: usize, beyond: &mut [u8])
+fn add_takers(takers: &[u8], jobs: usize, giver: usize, beyond: &mut [u8])
     requires { RowsThere takers.now jobs beyond.old × (giver < jobs) × Others jobs giver (takers_of takers.now jobs giver) }
     ensures { Joined takers.now jobs giver (takers_of takers.now jobs giver) beyond.old beyond.new }
 {
-    let mut w = 0;
-    while w < words(jobs) {
-        add_word(
-            takers,
-            jobs,
-            giver,
-            WORD_BITS * w,
-            word(takers, giver, w),
-            beyond,
-        );
-        w += 1;
+    for taker in needrows::takers(takers, jobs, giver) {
+        add_taker(takers, jobs, giver, taker, beyond);
     }
 }
 
@@ -80,11 +50,9 @@ fn add_rows(takers: &[u8], jobs: usize, order: &[u16; MAX_JOBS], beyond: &mut [u
     requires { OrderOf takers.now jobs order.now × (row_bytes * jobs ≤ length beyond.old) × ((i : ℕ) → at beyond.old i ≡ 0) }
     ensures { BeyondAre takers.now jobs beyond.new × (length beyond.new ≡ length beyond.old) }
 {
-    let mut next = jobs;
-    while next > 0 {
-        next -= 1;
-        let giver = order[next] as usize;
-        add_row(takers, jobs, giver, beyond);
+    for next in (0..jobs).rev() {
+        let giver = usize::from(order[next]);
+        add_takers(takers, jobs, giver, beyond);
     }
 }
 
@@ -99,24 +67,7 @@ fn put_pair(giver: usize, taker: usize, list: &mut [u16], at: usize)
     list[at + 1] = (taker + 1) as u16;
 }
 
-// The pairs of a giver with the takers in a word, numbered from `first`, in rising order, from entry `at` of the list on; gives the entry behind them.
-fn put_word(giver: usize, first: usize, some: Set, list: &mut [u16], at: usize) -> usize
-    requires { (giver < max_jobs) × Few (numbered first some) × (at + length (pairs_of giver (numbered first some)) ≤ length list.old) }
-    ensures size { result ≡ at + length (pairs_of giver (numbered first some)) }
-    ensures entries { list.new ≡ put at (pairs_of giver (numbered first some)) list.old }
-{
-    let mut next = at;
-    let mut rest = some;
-    while !rest.is_empty() {
-        let taker = first + rest.lowest() as usize;
-        put_pair(giver, taker, list, next);
-        next += 2;
-        rest = rest.rest();
-    }
-    next
-}
-
-// The pairs of a giver with all its takers that stand beyond it too.
+// The pairs of a giver with its takers that stand beyond it too, in rising order, from entry `at` of the list on; gives the entry behind them.
 fn put_row(
     takers: &[u8],
     beyond: &[u8],
@@ -131,11 +82,11 @@ fn put_row(
     ensures entries { list.new ≡ put at (row_from takers.now beyond.now jobs giver 0) list.old }
 {
     let mut next = at;
-    let mut w = 0;
-    while w < words(jobs) {
-        let both = word(takers, giver, w).intersection(word(beyond, giver, w));
-        next = put_word(giver, WORD_BITS * w, both, list, next);
-        w += 1;
+    for taker in needrows::takers(takers, jobs, giver) {
+        if bitmap::marked(beyond, ROW_BITS * giver + taker) {
+            put_pair(giver, taker, list, next);
+            next += 2;
+        }
     }
     next
 }
@@ -147,37 +98,31 @@ fn put_rows(takers: &[u8], beyond: &[u8], jobs: usize, list: &mut [u16]) -> usiz
     ensures entries { list.new ≡ put 0 (rows_from takers.now beyond.now jobs 0) list.old }
 {
     let mut next = 0;
-    let mut giver = 0;
-    while giver < jobs {
+    for giver in 0..jobs {
         next = put_row(takers, beyond, jobs, giver, list, next);
-        giver += 1;
     }
     next
 }
 
 // The needs of a job file that follow from others: giver and taker of each, as the file numbers them, one pair behind the other from the
-// front of the list. A refusal leaves the list as it was.
-pub fn implied_needs(file: &[u8], list: &mut [u16]) -> Listed
+// front of the list; gives how many pairs they are. A refusal leaves the list as it was.
+pub fn implied_needs(file: &[u8], list: &mut [u16]) -> Result<usize, Refusal>
     ensures { listing_of result list.new ≡ list_implied file.now list.old }
 {
     if list.len() < PAIR_ENTRIES {
-        return Listed::Refused(1);
+        return Err(Refusal::ShortBuffer);
     }
     let mut offsets = [0; MAX_JOBS];
     let mut takers = [0; ROWS_BYTES];
-    let f = jobfile::read_file(file, &mut offsets, &mut takers);
-    let number = f.number;
-    if number != 0 {
-        return Listed::Refused(number);
-    }
-    let jobs = f.jobs;
+    let counts = jobfile::read_file(file, &mut offsets, &mut takers)?;
+    let jobs = counts.jobs;
     let mut order = [0; MAX_JOBS];
     let mut release = [0; MAX_JOBS];
     if !releases::peel(&takers, jobs, &mut order, &mut release) {
-        return Listed::Refused(11);
+        return Err(Refusal::Circle);
     }
     let mut beyond = [0; ROWS_BYTES];
     add_rows(&takers, jobs, &order, &mut beyond);
     let entries = put_rows(&takers, &beyond, jobs, list);
-    Listed::Pairs(entries / 2)
+    Ok(entries / 2)
 }

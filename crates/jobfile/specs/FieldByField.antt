@@ -1,6 +1,6 @@
 -- A turn of the loop over the fields: what the field reader and the readers of its value answer, and what is still to come. Assumes nothing.
 -- More of what holds: proofs/FieldByField.antt.
-use Rattle.std.specs.Prelude.{◌≡◌, List, ℕ, ◌-◌, ◌≤◌, ◌<◌, length}
+use Rattle.std.specs.Prelude.{◌≡◌, List, ℕ, ◌-◌, ◌≤◌, ◌<◌, length, Ok, Err}
 use Rattle.std.proofs.Math.Path.{refl, sym, ap}
 use Rattle.std.proofs.Common.{◌∙◌, arith}
 use mathlib.Core.List.Memᴰ
@@ -9,12 +9,12 @@ use Rattle.rules.specs.Fields.{Answer, refused, got, after, field_end, over_fiel
 use Rattle.rules.specs.JobFile.{JobFile, read_field, no_fields}
 use Rattle.laws.specs.Fields.{over_fields-step, over_fields-end}
 use Rattle.needrows.specs.Rows.{rows_size}
-use Rattle.fieldreader.specs.declared.FieldAnswer.TheVariants.{Refused}
+use Rattle.refusals.specs.declared.Refusal.{Refusal}
+use Rattle.refusals.specs.Refusals.{number}
 use Rattle.fieldreader.specs.Reader.{field_at}
-use Rattle.fieldreader.specs.FieldFound.{on_field, field-first, not-zero}
+use Rattle.fieldreader.specs.FieldFound.{on_field, field-first}
 use Rattle.jobfile.specs.declared.Counts.{Counts}
 use Rattle.jobfile.specs.Reading.{state_of, initial, answer_of, Held, Same}
-use Rattle.jobfile.specs.NeedWays.{answer-refused, answer-got}
 
 -- ---- a turn of the loop: what is still to come from offset a on is what was to come at the start
 
@@ -33,7 +33,7 @@ module _ (bs : List ℕ) (a : ℕ) (f : JobFile) (next : ToCome bs a f) where
   all_read h = sym next.rest ∙ over_fields-end (read_field bs) next.room bs a f h
 
   module _ (h : a < length bs) where
-    field-refuses : (q : ℕ) → field_at bs a f.fields ≡ Refused q → all_fields bs ≡ refused q
+    field-refuses : (q : Refusal) → field_at bs a f.fields ≡ Err q → all_fields bs ≡ refused (number q)
     unfolding on_field after
     field-refuses q e =
         let p = over_fields-step (read_field bs) next.room bs a f h next.enough in
@@ -62,7 +62,6 @@ start-held bs offsets rows len size = record {
 
 -- ---- the loop's invariant: the fields before offset a have been read into counts, offsets and rows
 pub record ReadTo (bs : List ℕ) (c : Counts) (o rows : List ℕ) (a : ℕ) : Type 0 where
-  pub well : c.number ≡ 0
   pub counted : c.fields ≤ a
   pub inside : a ≤ length bs
   pub file : JobFile
@@ -70,9 +69,8 @@ pub record ReadTo (bs : List ℕ) (c : Counts) (o rows : List ℕ) (a : ℕ) : T
   pub to-come : ToCome bs a file
 
 -- before the first field
-pub start-read : (bs o rows : List ℕ) (c : Counts) → c.number ≡ 0 → c.fields ≡ 0 → Held bs no_fields (state_of c o rows) → ReadTo bs c o rows 0
-start-read bs o rows c n z h = record {
-  well = n;
+pub start-read : (bs o rows : List ℕ) (c : Counts) → c.fields ≡ 0 → Held bs no_fields (state_of c o rows) → ReadTo bs c o rows 0
+start-read bs o rows c z h = record {
   counted = omega arith;
   inside = omega arith;
   file = no_fields;
@@ -82,14 +80,12 @@ start-read bs o rows c n z h = record {
 
 module _ {bs o rows : List ℕ} {c : Counts} {a : ℕ} (r : ReadTo bs c o rows a) where
   -- there is no field left
-  pub end_same : length bs ≤ a → Same bs (all_fields bs) (answer_of c o rows)
+  pub end_same : length bs ≤ a → Same bs (all_fields bs) (answer_of (Ok c) o rows)
   unfolding Same
-  end_same h = rw (all_read bs a r.file r.to-come h, answer-got c o rows r.well) r.held
+  end_same h = rw (all_read bs a r.file r.to-come h) r.held
 
-  module _ (h : a < length bs) (d : Counts) (o' rows' : List ℕ) where
+  module _ (h : a < length bs) where
     -- there is one, and its reader refuses it
-    pub field-same-no : (q : ℕ) → field_at bs a c.fields ≡ Refused q → d.number ≡ q → Same bs (all_fields bs) (answer_of d o' rows')
+    pub field-same-no : (q : Refusal) → field_at bs a c.fields ≡ Err q → Same bs (all_fields bs) (refused (number q))
     unfolding Same
-    field-same-no q e n =
-        let all = field-refuses bs a r.file r.to-come h q (rw (← r.held.fields-is) e) in
-        rw (all, answer-refused d q o' rows' n (not-zero bs a c.fields q e)) refl
+    field-same-no q e = rw (field-refuses bs a r.file r.to-come h q (rw (← r.held.fields-is) e)) refl

@@ -1,23 +1,11 @@
 -- The ways out of the reader of a need, by what it has tested. Assumes nothing.
-use Rattle.std.specs.Prelude.{◌≡◌, true, false, List, ℕ, ◌-◌, ◌≤◌}
+use Rattle.std.specs.Prelude.{◌≡◌, true, false, ℕ, ◌-◌, ◌≤◌}
 use Rattle.std.proofs.Math.Path.{refl}
 use borrow.Author.Tests.{eq-eqb, ne_eqb}
-use Rattle.rules.specs.Basics.{choose}
 use Rattle.rules.specs.Fields.{refused, got, ask}
 use Rattle.rules.specs.JobFile.{is_job}
 use Rattle.laws.specs.Tests.{tests, T_true}
-use Rattle.jobfile.specs.declared.Counts.{Counts}
-use Rattle.jobfile.specs.Reading.{State, state_of, answer_of, linked, take_need}
-
--- ---- what counts say
-
-pub answer-refused : (c : Counts) (q : ℕ) (o rows : List ℕ) → c.number ≡ q → (q ≡ 0 → ⊥) → answer_of c o rows ≡ refused q
-unfolding answer_of choose
-answer-refused c q o rows e n = simp (e, ne_eqb q 0 n)
-
-pub answer-got : (c : Counts) (o rows : List ℕ) → c.number ≡ 0 → answer_of c o rows ≡ got (state_of c o rows)
-unfolding answer_of choose
-answer-got c o rows e = simp (eq-eqb c.number 0 e)
+use Rattle.jobfile.specs.Reading.{State, linked, take_need}
 
 pub is-job-in : (n g : ℕ) → is_job n g ≡ true → (1 ≤ g) × (g ≤ n)
 unfolding is_job

@@ -1,7 +1,7 @@
 -- The list of the members of a set, and what a loop over them needs. Assumes nothing.
 use Rattle.std.specs.Prelude.{◌≡◌, refl, Bool, true, false, not, ◌↔◌, ℕ, zero, suc, ◌+◌, ◌^◌, ◌<◌, ◌≤◌}
 use Rattle.std.proofs.Common.{sym, ap, ◌∙◌, arith, eqb-true}
-use mathlib.Core.List.{[], ◌∷◌, Memᴰ}
+use mathlib.Core.List.{List, [], ◌∷◌, Memᴰ}
 use Rattle.std.proofs.Math.Decide.{ℕ_discrete}
 use Rattle.std.proofs.lemmas.Bool.{not-true, not-false}
 use Rattle.rules.specs.Basics.{choose, range, filter}
@@ -29,6 +29,10 @@ in_members s j = rw (members-passing s) (
   λ h. (passing-in (member s) 64 j).1 (h.0, (T_true (member s j)).1 h.1),
 )
 
+-- the first of the list is a place
+pub first-below : (s : Set) (i : ℕ) (rest : List ℕ) → members s ≡ i ∷ rest → i < 64
+first-below s i rest e = ((in_members s i).0 (rw e (Memᴰ.head refl))).0
+
 -- sets with the same members from i up have the same list
 same_from : (k i : ℕ) (s t : Set) → ((j : ℕ) → i ≤ j → member s j ≡ member t j) → members_from k i s ≡ members_from k i t
 unfolding members_from
@@ -43,6 +47,10 @@ none_from : (k i : ℕ) → members_from k i empty ≡ []
 unfolding members_from choose
 none_from zero i = refl
 none_from (suc k) i = rw (member-empty i) (none_from k (suc i))
+
+pub members-empty : members empty ≡ []
+unfolding members
+members-empty = none_from 64 0
 
 -- the list begins with the lowest member and goes on with the others
 lowest-from : (k i : ℕ) (s : Set) → member s (lowest s) ≡ true → i ≤ lowest s → lowest s < i + k → members_from k i s ≡ lowest s

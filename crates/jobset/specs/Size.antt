@@ -1,11 +1,12 @@
 -- The number of members of a set. Assumes nothing.
-use Rattle.std.specs.Prelude.{◌≡◌, refl, ◌∷◌, ℕ, zero, suc, ◌+◌, ◌/◌, ◌%◌, ◌^◌, ◌<◌, eqb, length}
+use Rattle.std.specs.Prelude.{◌≡◌, refl, ◌∷◌, ℕ, zero, suc, ◌+◌, ◌/◌, ◌%◌, ◌^◌, ◌<◌, ◌≤◌, eqb, length}
 use Rattle.std.proofs.Common.{sym, ap, ◌∙◌, pow-suc, shr-shr}
 use native.Mathlib.Omega.{arith}
 use Rattle.std.specs.Int.Count.{ones, ones_step}
 use Rattle.rules.specs.Basics.{choose}
 use Rattle.jobset.specs.declared.Set.{Set}
 use Rattle.jobset.specs.Sets.{digit, member, size, members_from, members}
+use lib.Count.{ones-le}
 use Rattle.jobset.specs.Digits.{digit_lt}
 
 -- the ones of a number from place i up are the members from i up
@@ -29,3 +30,8 @@ ones-from (suc k) i s h =
 pub size-members : (s : Set) → s.bits < 2 ^ 64 → size s ≡ length (members s)
 unfolding size members
 size-members s h = let e : s.bits / 1 ≡ s.bits = omega arith in ap ones (sym e) ∙ ones-from 64 0 s (omega arith)
+
+-- there are at most 64
+pub size-most : (s : Set) → s.bits < 2 ^ 64 → length (members s) ≤ 64
+unfolding size
+size-most s h = rw (sym (size-members s h)) (ones-le 64 s.bits h)

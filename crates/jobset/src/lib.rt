@@ -3,8 +3,9 @@
 // Callers use the laws of membership in specs/ and never the bits.
 #![tactic(auto)]
 
-ghost use Rattle.std.specs.Prelude.{◌≡◌, false, ◌<◌};
-ghost use Rattle.jobset.specs.Sets.{member, one, with, without, union, minus, intersection, is_subset, is_empty, is_one, size, lowest};
+ghost use Rattle.std.specs.Prelude.{◌≡◌, ◌∷◌, [], false, ◌<◌, MatchOption};
+ghost use Rattle.std.specs.Iterator.{YieldsFirst, item_count};
+ghost use Rattle.jobset.specs.Sets.{member, members, one, with, without, union, minus, intersection, is_subset, is_empty, is_one, size, lowest};
 
 #[derive(Clone, Copy)]
 pub struct Set {
@@ -19,7 +20,9 @@ impl Set {
     pub fn of_byte(byte: u8) -> Set
         ensures { (result.bits ≡ byte) × (byte < 256) }
     {
-        Set { bits: byte as u64 }
+        Set {
+            bits: u64::from(byte),
+        }
     }
 
     // The set whose one member is i.
@@ -122,19 +125,55 @@ impl Set {
     pub fn count(self) -> u32
         ensures { result ≡ size self }
     {
-        let mut rest = self;
-        let mut taken = 0;
-        while !rest.is_empty() {
-            rest = rest.rest();
-            taken += 1;
-        }
-        taken
+        self.into_iter().count() as u32
     }
 
-    // The lowest member; 64 where there is none.
+    // The lowest member; where there is none, 64, as trailing_zeros has it (split_first says so by an Option).
     pub fn lowest(self) -> u32
         ensures { result ≡ lowest self }
     {
         u64::trailing_zeros(self.bits)
+    }
+
+    // The lowest member and the set of the others; none where there is no member.
+    pub fn split_first(self) -> Option<(usize, Set)>
+        ensures { MatchOption result (members self ≡ []) (λ p. members self ≡ p.0 ∷ members p.1) }
+    {
+        if self.is_empty() {
+            return None;
+        }
+        Some((self.lowest() as usize, self.rest()))
+    }
+}
+
+// The members of a set, rising: those that are still to come.
+#[derive(Clone, Copy)]
+pub struct Members {
+    pub rest: Set,
+}
+
+impl Iterator for Members {
+    type Item = usize;
+
+    ghost next_gives = { YieldsFirst (λ s. members s.rest) };
+
+    ghost remaining = { item_count (λ s. members s.rest) };
+
+    fn next(&mut self) -> Option<usize> {
+        let (first, others) = self.rest.split_first()?;
+        self.rest = others;
+        Some(first)
+    }
+}
+
+impl IntoIterator for Set {
+    type Item = usize;
+
+    type IntoIter = Members;
+
+    fn into_iter(self) -> Members
+        ensures { result.rest ≡ self }
+    {
+        Members { rest: self }
     }
 }

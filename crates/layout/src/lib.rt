@@ -16,7 +16,6 @@ ghost use Rattle.rules.specs.Sizes.{max_limit, max_width};
 ghost use Rattle.jobset.specs.Sets.{set_at};
 ghost use Rattle.layout.specs.Layout.{table_words, tables_in};
 
-use fields::index;
 use jobset::Set;
 use sizes::{ALL_PLACES, DEADLINES, MAX_SLOTS, PLACE_SETS, PLACES};
 
@@ -46,7 +45,7 @@ pub fn set_at(tables: &[u16; TABLES], i: usize) -> Set
     ensures { result ≡ set_at tables.now i }
 {
     Set {
-        bits: wide(tables[i]),
+        bits: u64::from(tables[i]),
     }
 }
 
@@ -55,12 +54,5 @@ pub fn job_at(tables: &[u16; TABLES], slot: usize, p: usize) -> usize
     requires { (slot < max_limit) × (p < max_width) }
     ensures { result ≡ (tables_in tables.now).who slot p }
 {
-    index(tables[WHO + PLACES * slot + p])
-}
-
-// A two-byte number, as the number of a set.
-fn wide(w: u16) -> u64
-    ensures { result ≡ w }
-{
-    w as u64
+    usize::from(tables[WHO + PLACES * slot + p])
 }

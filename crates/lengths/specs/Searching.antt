@@ -1,5 +1,5 @@
 -- The search over lengths: what it asks and what it gives. Assumes nothing.
-use Rattle.std.specs.Prelude.{◌≡◌, true, List, ℕ, ◌+◌, ◌≤◌, ◌<◌, length, replicate}
+use Rattle.std.specs.Prelude.{◌≡◌, true, List, Option, None, Some, ℕ, ◌+◌, ◌≤◌, ◌<◌, length, replicate}
 use Rattle.std.proofs.Math.Option.{none, some}
 use Rattle.rules.specs.Sizes.{max_jobs, max_width, max_limit}
 use Rattle.rules.specs.Basics.{at, tabulate}
@@ -60,7 +60,7 @@ pub record PlanFound (W : Windows) (cap limit C : ℕ) (words path : List ℕ) :
   pub starts-are : written (tables_in words) 0 (plan_of (tables_in words) cap C).sets (replicate max_jobs 0)
       ≡ tabulate (at (list_found W cap limit C words)) max_jobs 0
 
--- the answer: 0 where no list fits the limit, else the slots of the best one
-pub record Found (W : Windows) (cap limit r : ℕ) (words path : List ℕ) : Type 0 where
-  pub no-list : r ≡ 0 → best W.n (runsb W.n W.needs cap) limit ≡ none
-  pub a-plan : 0 < r → PlanFound W cap limit r words path
+-- the answer: the slots of the best list, none where no list fits the limit
+pub record Found (W : Windows) (cap limit : ℕ) (r : Option ℕ) (words path : List ℕ) : Type 0 where
+  pub no-list : r ≡ None → best W.n (runsb W.n W.needs cap) limit ≡ none
+  pub a-plan : (C : ℕ) → r ≡ Some C → (0 < C) × PlanFound W cap limit C words path

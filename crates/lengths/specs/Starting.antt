@@ -1,18 +1,17 @@
 -- The starts written slot by slot. Assumes nothing.
-use Rattle.std.specs.Prelude.{◌≡◌, refl, List, [], ℕ, suc, ◌-◌, ◌≤◌, ◌<◌, length, take, drop, set}
+use Rattle.std.specs.Prelude.{◌≡◌, refl, List, [], ◌∷◌, ℕ, suc, ◌-◌, ◌≤◌, ◌<◌, length, take, drop, set}
 use Rattle.std.proofs.Common.{arith, drop-cons}
 use Rattle.jobset.specs.declared.Set.{Set}
-use Rattle.jobset.specs.Sets.{set_at, members, without}
-use Rattle.jobset.specs.Members.{Turn}
+use Rattle.jobset.specs.Sets.{set_at, members}
 use Rattle.dominance.specs.Placing.{place}
 use Rattle.places.specs.Tables.{Tables}
 use Rattle.shortest.specs.Starts.{jobs_up, written}
 
 -- one place of a slot
-pub start-turn : (who : ℕ → ℕ) (s : ℕ) (rest : Set) (p : ℕ) (t t' : List ℕ) → Turn rest p → t' ≡ set t (who p) s
-    → place s (jobs_up who (without rest p)) t' ≡ place s (jobs_up who rest) t
+pub start-turn : (who : ℕ → ℕ) (s : ℕ) (rest others : Set) (p : ℕ) (t t' : List ℕ) → members rest ≡ p ∷ members others → t' ≡ set t (who p) s
+    → place s (jobs_up who others) t' ≡ place s (jobs_up who rest) t
 unfolding jobs_up place
-start-turn who s rest p t t' r e = rw (r.first, e) refl
+start-turn who s rest others p t t' r e = rw (r, e) refl
 
 pub start-end : (who : ℕ → ℕ) (s : ℕ) (rest : Set) (t : List ℕ) → members rest ≡ [] → place s (jobs_up who rest) t ≡ t
 unfolding jobs_up place

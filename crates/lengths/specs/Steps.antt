@@ -1,8 +1,8 @@
 -- One length of the search: the tables that it fits are ready, what it finds in them is the plan of the model, and what that says of the
 -- best start list. Assumes nothing.
-use Rattle.std.specs.Prelude.{◌≡◌, refl, Bool, true, false, List, [], ◌∷◌, ℕ, zero, suc, ◌+◌, ◌-◌, ◌≤◌, ◌<◌, length}
+use Rattle.std.specs.Prelude.{◌≡◌, refl, Bool, true, false, List, [], ◌∷◌, None, Some, ℕ, zero, suc, ◌+◌, ◌-◌, ◌≤◌, ◌<◌, length}
 use Rattle.std.proofs.Math.Path.{sym, ap}
-use Rattle.std.proofs.Common.{◌∙◌, arith, length-set, get_or-set_same, get_or-set_other}
+use Rattle.std.proofs.Common.{◌∙◌, subst, arith, length-set, get_or-set_same, get_or-set_other}
 use mathlib.Core.List.Memᴰ
 use Rattle.std.proofs.Math.Option.{some}
 use Rattle.rules.specs.Sizes.{max_limit, max_jobs}
@@ -28,7 +28,7 @@ use Rattle.seats.specs.Rows.{bytes-few}
 use Rattle.seats.specs.Filled.{Filled, filled-places, filled-shows, filled-marks, Fitting, Fitted}
 use Rattle.backtrack.specs.Entries.{slots_in, cap_in}
 use Rattle.backtrack.specs.Search.{Searchable, written, explored_in}
-use Rattle.lengths.specs.Searching.{Search, list_found, Found}
+use Rattle.lengths.specs.Searching.{Search, list_found, PlanFound, Found}
 
 -- ---- sets written over a path
 
@@ -66,10 +66,10 @@ module _ (W : Windows) (cap filled least limit jobs : ℕ) (words places tail : 
   goes = record { rows = Q.rows; some = Q.some; more = Q.more; from = omega arith; cap-at = Q.cap-at; low = Q.low; path-len = Q.path-len }
 
   -- where no length is left
-  pub ends : (has next : ℕ) (now path' : List ℕ) → Going W cap least has next now path' → limit < next → Found W cap limit 0 now path'
+  pub ends : (has next : ℕ) (now path' : List ℕ) → Going W cap least has next now path' → limit < next → Found W cap limit None now path'
   ends has next now path' G h = record {
     no-list = λ _. no_length W.n W.needs cap limit Q.limit-pos next h G.low;
-    a-plan = λ l. absurd (omega arith);
+    a-plan = λ C e. cc;
   }
 
   module _ (has C : ℕ) (before path' : List ℕ) (G : Going W cap least has C before path') (in-limit : C ≤ limit) where
@@ -170,21 +170,11 @@ module _ (W : Windows) (cap filled least limit jobs : ℕ) (words places tail : 
 
         -- a plan: its list is the best
         pub is_found : (b : Bool) → b ≡ (explored_in after 0 empty empty (cleared (at after (marks_at + C)) dead)).plan.ok → b ≡ true → (path'' : List ℕ)
-            → path'' ≡ written 0 (explored_in after 0 empty empty (cleared (at after (marks_at + C)) dead)).plan.sets path' → Found W cap limit C after path''
+            → path'' ≡ written 0 (explored_in after 0 empty empty (cleared (at after (marks_at + C)) dead)).plan.sets path'
+            → Found W cap limit (Some C) after path''
         is_found b e y path'' p = record {
-          no-list = λ z. absurd (omega (arith, G.some, G.more));
-          a-plan = λ _. record {
-            has-places = has-places;
-            ready = ready;
-            in-limit = in-limit;
-            path-len = ap length p ∙ length-written _ 0 path' ∙ G.path-len;
-            full = full;
-            same = λ s l. ap (λ (q : List ℕ). at q s) p ∙ rw (explored-is) (each s l);
-            is-best = is-best;
-            slots-are = plan-slots W Z limit Q.leads Q.bounds cap (tables_in after) C in-limit ready G.low pos ok;
-            starts-are = plan-written W Z limit Q.leads Q.bounds cap (tables_in after) C in-limit ready G.low pos ok max_jobs
-                (omega (arith, Q.count, Q.jobs-fit));
-          };
+          no-list = λ z. cc;
+          a-plan = λ D z. let same : C ≡ D = cc in subst (λ (k : ℕ). (0 < k) × PlanFound W cap limit k after path'') same (pos, plan);
         }
           where
             ok : (plan_of (tables_in after) cap C).ok ≡ true
@@ -203,3 +193,17 @@ module _ (W : Windows) (cap filled least limit jobs : ℕ) (words places tail : 
             each s l =
                 let z : 0 + s ≡ s = omega arith in
                 rw z at (written_at (plan_of (tables_in after) cap C).sets 0 path' s (omega (arith, full, G.path-len, Q.few)) (omega (arith, full)))
+
+            plan : PlanFound W cap limit C after path''
+            plan = record {
+              has-places = has-places;
+              ready = ready;
+              in-limit = in-limit;
+              path-len = ap length p ∙ length-written _ 0 path' ∙ G.path-len;
+              full = full;
+              same = λ s l. ap (λ (q : List ℕ). at q s) p ∙ rw (explored-is) (each s l);
+              is-best = is-best;
+              slots-are = plan-slots W Z limit Q.leads Q.bounds cap (tables_in after) C in-limit ready G.low pos ok;
+              starts-are = plan-written W Z limit Q.leads Q.bounds cap (tables_in after) C in-limit ready G.low pos ok max_jobs
+                  (omega (arith, Q.count, Q.jobs-fit));
+            }

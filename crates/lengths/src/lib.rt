@@ -12,7 +12,6 @@ ghost use Rattle.dominance.specs.Placing.{place};
 ghost use Rattle.shortest.specs.Starts.{jobs_up, written};
 ghost use Rattle.lengths.specs.Searching.{PlacesIn, Search, Found};
 
-use fields::index;
 use jobset::Set;
 use layout::{MARKS, TABLES, job_at};
 use sizes::{MAX_JOBS, MAX_SLOTS};
@@ -22,11 +21,8 @@ fn start_all(tables: &[u16; TABLES], slot: usize, places: Set, starts: &mut [u8;
     requires { (slot < max_limit) × PlacesIn tables.now slot places }
     ensures { starts.new ≡ place slot (jobs_up ((tables_in tables.now).who slot) places) starts.old }
 {
-    let mut rest = places;
-    while !rest.is_empty() {
-        let job = job_at(tables, slot, rest.lowest() as usize);
-        starts[job] = slot as u8;
-        rest = rest.rest();
+    for p in places {
+        starts[job_at(tables, slot, p)] = slot as u8;
     }
 }
 
@@ -40,14 +36,12 @@ pub fn starts_of(
     requires { (slots ≤ max_limit) × (length path.now ≡ max_limit) × ((s : ℕ) → s < slots → PlacesIn tables.now s (set_at path.now s)) }
     ensures { starts.new ≡ written (tables_in tables.now) 0 (take slots path.now) starts.old }
 {
-    let mut slot = 0;
-    while slot < slots {
+    for slot in 0..slots {
         start_all(tables, slot, Set::of_byte(path[slot]), starts);
-        slot += 1;
     }
 }
 
-// The slots of the shortest plan of `least` to `limit` slots, 0 where there is none; its sets, the preferred ones, in `path`. The tables have
+// The slots of the shortest plan of `least` to `limit` slots, if there is one; its sets, the preferred ones, in `path`. The tables have
 // `filled` slots before, and those of the plan after. `dead` is room for the bitmap: no answer depends on what it holds.
 pub fn search(
     tables: &mut [u16; TABLES],
@@ -59,23 +53,20 @@ pub fn search(
     tail: &[u16; MAX_JOBS],
     dead: &mut [u8],
     path: &mut [u8; MAX_SLOTS],
-) -> usize
+) -> Option<usize>
     requires { (W : Windows) × (cap : ℕ) × Search W cap filled least limit jobs tables.old places.now tail.now (length dead.old) path.old }
     ensures { (W : Windows) (cap : ℕ)
         → Search W cap filled least limit jobs tables.old places.now tail.now (length dead.old) path.old
         → Found W cap limit result tables.new path.new }
 {
     let mut has = filled;
-    let mut next = least;
-    while next <= limit {
-        let slots = next;
-        next += 1;
+    for slots in least..=limit {
         seats::fit(tables, has, slots, jobs, places, tail);
         has = slots;
-        bitmap::clear(dead, index(tables[MARKS + slots]));
+        bitmap::clear(dead, usize::from(tables[MARKS + slots]));
         if backtrack::explore(tables, dead, Set::EMPTY, Set::EMPTY, 0, path) {
-            return slots;
+            return Some(slots);
         }
     }
-    0
+    None
 }

@@ -3,53 +3,32 @@
 
 ghost use Rattle.std.specs.Prelude.{◌≡◌};
 ghost use Rattle.rules.specs.Numbers.{round_half_even};
-ghost use Rattle.levels.specs.Levels.{twos_complement, rounded};
+ghost use Rattle.levels.specs.Levels.{rounded};
 
-// From here on a two-byte number stands for a negative one.
-const NEGATIVE: u32 = 32768;
-
-// A negative number is so much less than the two-byte number that stands for it.
-const MODULUS: u32 = 65536;
-
-fn wide(w: u16) -> u32
-    ensures { result ≡ w }
-{
-    w as u32
-}
+use std::cmp::Ordering;
 
 // The nearest centimetre of millimetres from zero up; a half goes to the even neighbour.
-fn round_half_even(millimetres: u32) -> u32
+fn round_half_even(millimetres: u16) -> u16
     ensures { result ≡ round_half_even millimetres }
 {
     let whole = millimetres / 10;
     let rest = millimetres % 10;
-    if rest < 5 {
-        return whole;
+    match rest.cmp(&5) {
+        Ordering::Less => whole,
+        Ordering::Equal => whole + whole % 2,
+        Ordering::Greater => whole + 1,
     }
-    if rest > 5 {
-        return whole + 1;
-    }
-    if whole % 2 == 0 {
-        return whole;
-    }
-    whole + 1
-}
-
-// Minus a number, modulo MODULUS.
-fn minus(number: u32) -> u16
-    ensures { result ≡ twos_complement number }
-{
-    ((MODULUS - number % MODULUS) % MODULUS) as u16
 }
 
 // The nearest centimetre of a level in millimetres; a half goes to the even neighbour, and minus a level gives minus what the level gives.
 pub fn centimetres(level: u16) -> u16
     ensures { result ≡ rounded level }
 {
-    let w = wide(level);
-    if w < NEGATIVE {
-        return round_half_even(w) as u16;
+    let millimetres = level.cast_signed();
+    let nearest = round_half_even(millimetres.unsigned_abs());
+    if millimetres.is_negative() {
+        nearest.wrapping_neg()
+    } else {
+        nearest
     }
-    let below = MODULUS - w;
-    minus(round_half_even(below))
 }

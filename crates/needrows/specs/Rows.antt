@@ -49,6 +49,10 @@ four_at rows i = two_at rows i + 65536 * two_at rows (i + 2)
 unfoldable pub eight_at : List ℕ → ℕ → ℕ
 eight_at rows i = four_at rows i + 4294967296 * four_at rows (i + 4)
 
+-- it, as a set
+unfoldable pub word_from : List ℕ → ℕ → Set
+word_from rows i = record { bits = eight_at rows i }
+
 -- word w of the row of g: its members are the takers from 64 * w on, each counted from there
 unfoldable pub word_at : List ℕ → ℕ → ℕ → Set
 word_at rows g w = record { bits = eight_at rows (row_bytes * g + word_bytes * w) }
@@ -67,6 +71,14 @@ takers_behind rows n g w = takers_from rows g (words_for n - w) w
 -- all of them
 abbrev pub takers_of : List ℕ → ℕ → ℕ → List ℕ
 takers_of rows n g = takers_behind rows n g 0
+
+-- those that are still to come: the members of `here`, numbered from `first`, and those in the words from `next` on, of so many
+abbrev pub still_to_come : List ℕ → ℕ → ℕ → ℕ → ℕ → Set → List ℕ
+still_to_come rows g words next first here = map (first +◌) (members here) ++ takers_from rows g (words - next) next
+
+-- the same where `here` is left of the word at byte `at` of the row, and the last word is at byte `last`
+abbrev pub left_at : List ℕ → ℕ → ℕ → ℕ → Set → List ℕ
+left_at rows g last at here = still_to_come rows g (last / word_bytes + 1) (at / word_bytes + 1) (8 * at) here
 
 -- the rows of n jobs have just these needs
 abbrev pub RowsAre : List ℕ → ℕ → List Need → Type 0

@@ -14,10 +14,11 @@ use Rattle.laws.specs.Tests.{T_true}
 use Rattle.laws.specs.Lists.{Rising, map-mem, map-mem⁻¹, range-rising, filter-rising}
 use Rattle.laws.specs.Counting.{rising-distinct}
 use Rattle.laws.specs.Program.{gives-is}
-use Rattle.jobset.specs.Sets.{member, members}
-use Rattle.jobset.specs.Members.{members-passing, in_members}
+use Rattle.jobset.specs.declared.Set.{Set}
+use Rattle.jobset.specs.Sets.{member, empty, members}
+use Rattle.jobset.specs.Members.{members-passing, in_members, members-empty}
 use Rattle.bitmap.specs.Marks.{is_marked}
-use Rattle.needrows.specs.Rows.{row_bytes, row_bits, word_bytes, word_bits, words_for, word_at, takers_from, takers_behind, takers_of, RowsAre}
+use Rattle.needrows.specs.Rows.{row_bytes, row_bits, word_bytes, word_bits, words_for, word_at, takers_from, takers_behind, takers_of, still_to_come, RowsAre}
 use Rattle.needrows.specs.Words.{member-word}
 
 -- ---- lists that rise
@@ -51,6 +52,25 @@ module _ (rows : List ℕ) (n g w : ℕ) where
   -- the bytes of a word are there
   pub word_fits : n ≤ row_bits → row_bytes * n ≤ length rows → g < n → w < words_for n → row_bytes * g + word_bytes * w + word_bytes ≤ length rows
   word_fits a b c d = omega arith
+
+-- ---- the iterator over the takers, where no member is left of the word before
+
+module _ (rows : List ℕ) (g words next first : ℕ) (here : Set) (none : members here ≡ []) where
+  -- the next word comes
+  pub next-word : next < words → still_to_come rows g words next first here ≡ still_to_come rows g words (next + 1) (word_bits * next) (word_at rows g next)
+  unfolding takers_from
+  next-word h =
+      let e : words - next ≡ suc (words - (next + 1)) = omega arith in
+      rw (none, e, add-one next) refl
+
+  -- no word is left
+  pub no-word : words ≤ next → still_to_come rows g words next first here ≡ []
+  unfolding takers_from
+  no-word h = let e : words - next ≡ 0 = omega arith in rw (none, e) refl
+
+-- all are to come before the first word
+pub all-to-come : (rows : List ℕ) (n g : ℕ) → still_to_come rows g (words_for n) 0 0 empty ≡ takers_of rows n g
+all-to-come rows n g = rw members-empty refl
 
 -- ---- which they are
 

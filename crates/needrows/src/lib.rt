@@ -3,9 +3,10 @@
 // member j of word w is taker WORD_BITS * w + j. Jobs are counted from 0.
 #![tactic(auto)]
 
-ghost use Rattle.std.specs.Prelude.{◌≡◌, ◌+◌, ◌*◌, ◌≤◌, ◌<◌, length};
+ghost use Rattle.std.specs.Prelude.{◌≡◌, ◌+◌, ◌*◌, ◌%◌, ◌≤◌, ◌<◌, length};
+ghost use Rattle.std.specs.Iterator.{YieldsFirst, item_count};
 ghost use Rattle.bitmap.specs.Marks.{with_mark};
-ghost use Rattle.needrows.specs.Rows.{row_bytes, row_bits, word_bytes, words_for, without_row, two_at, four_at, word_at};
+ghost use Rattle.needrows.specs.Rows.{row_bytes, row_bits, word_bytes, words_for, without_row, word_from, word_at, takers_of, left_at};
 
 use jobset::Set;
 use sizes::MAX_JOBS;
@@ -47,26 +48,16 @@ pub fn add(rows: &mut [u8], giver: usize, taker: usize)
     bitmap::mark(rows, ROW_BITS * giver + taker);
 }
 
-// A byte, as a wide number.
-fn wide(b: u8) -> u64
-    ensures { result ≡ b }
+// The eight bytes from one on, as a set.
+fn eight_bytes(rows: &[u8], at: usize) -> Set
+    requires { at + word_bytes ≤ length rows.now }
+    ensures { result ≡ word_from rows.now at }
 {
-    b as u64
-}
-
-// The number in two, in four bytes, low byte first.
-fn two_bytes(rows: &[u8], at: usize) -> u64
-    requires { at + 2 ≤ length rows.now }
-    ensures { result ≡ two_at rows.now at }
-{
-    wide(rows[at]) + 256 * wide(rows[at + 1])
-}
-
-fn four_bytes(rows: &[u8], at: usize) -> u64
-    requires { at + 4 ≤ length rows.now }
-    ensures { result ≡ four_at rows.now at }
-{
-    two_bytes(rows, at) + 65536 * two_bytes(rows, at + 2)
+    let mut bytes = [0; WORD_BYTES];
+    bytes.copy_from_slice(&rows[at..at + WORD_BYTES]);
+    Set {
+        bits: u64::from_le_bytes(bytes),
+    }
 }
 
 // Word w of the giver's row.
@@ -74,8 +65,58 @@ pub fn word(rows: &[u8], giver: usize, w: usize) -> Set
     requires { row_bytes * giver + word_bytes * w + word_bytes ≤ length rows.now }
     ensures { result ≡ word_at rows.now giver w }
 {
-    let at = ROW_BYTES * giver + WORD_BYTES * w;
-    Set {
-        bits: four_bytes(rows, at) + 4294967296 * four_bytes(rows, at + 4),
+    eight_bytes(rows, ROW_BYTES * giver + WORD_BYTES * w)
+}
+
+// The takers of a giver, rising, that are still to come: what `here` has left of the word at byte `at` of the row, and those in the words
+// behind it, up to the one at byte `last`. (Places in bytes, not words: so a loop over the takers takes as few steps as one over the words.)
+#[derive(Clone, Copy)]
+pub struct RowTakers<'a> {
+    pub rows: &'a [u8],
+    pub giver: usize,
+    pub last: usize,
+    pub at: usize,
+    pub here: Set,
+    ghost row_there: { row_bytes * giver + row_bytes ≤ length rows.now },
+    ghost last_in_row: { last + word_bytes ≤ row_bytes },
+    ghost last_whole: { last % word_bytes ≡ 0 },
+    ghost at_in: { at ≤ last },
+    ghost at_whole: { at % word_bytes ≡ 0 },
+}
+
+impl<'a> Iterator for RowTakers<'a> {
+    type Item = usize;
+
+    ghost next_gives = { YieldsFirst (λ s. left_at s.rows.now s.giver s.last s.at s.here) };
+
+    ghost remaining = { item_count (λ s. left_at s.rows.now s.giver s.last s.at s.here) };
+
+    fn next(&mut self) -> Option<usize> {
+        // As many turns as there are words without a taker, and one more.
+        loop {
+            if let Some((member, others)) = self.here.split_first() {
+                self.here = others;
+                return Some(8 * self.at + member);
+            }
+            if self.at == self.last {
+                return None;
+            }
+            self.at += WORD_BYTES;
+            self.here = eight_bytes(self.rows, ROW_BYTES * self.giver + self.at);
+        }
+    }
+}
+
+// The takers of a giver among so many jobs.
+pub fn takers(rows: &[u8], jobs: usize, giver: usize) -> RowTakers<'_>
+    requires { (jobs ≤ row_bits) × (giver < jobs) × (row_bytes * jobs ≤ length rows.now) }
+    ensures { left_at result.rows.now result.giver result.last result.at result.here ≡ takers_of rows.now jobs giver }
+{
+    RowTakers {
+        rows,
+        giver,
+        last: WORD_BYTES * (words(jobs) - 1),
+        at: 0,
+        here: word(rows, giver, 0),
     }
 }

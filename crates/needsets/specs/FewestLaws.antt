@@ -1,11 +1,11 @@
 -- Trying every start list by its index gives the rules' fewest slots. Assumes nothing.
-use Rattle.std.specs.Prelude.{◌≡◌, ◌⊎◌, ◌↔◌, Bool, true, false, T, eqb}
+use Rattle.std.specs.Prelude.{◌≡◌, ◌⊎◌, ◌↔◌, Bool, true, false, T, eqb, Option, Some}
 use Rattle.std.proofs.Math.Path.{refl, ap}
-use Rattle.std.proofs.Common.{sym, ap₂, subst, ◌∙◌, inl, inr, arith, div-lt_iff_lt-mul, ne_eqb}
+use Rattle.std.proofs.Common.{sym, ap₂, subst, ◌∙◌, inl, inr, arith, div-lt_iff_lt-mul}
 use mathlib.Core.List.Memᴰ
 use mathlib.Core.List.{List, [], ◌∷◌, map, Memᴰ}
-use Rattle.std.proofs.Math.Option.{Option, none, some}
-use Prim.Native.Nat.{ℕ, zero, suc, ◌+◌, ◌*◌, ◌^◌, ◌/◌, ◌%◌, ◌≤◌, ◌<◌, min}
+use Rattle.std.proofs.Math.Option.{Option as Maybe, none, some}
+use Prim.Native.Nat.{ℕ, zero, suc, ◌+◌, ◌*◌, ◌^◌, ◌/◌, ◌%◌, ◌≤◌, ◌<◌}
 use Rattle.std.proofs.Math.Decide.{ℕ_discrete}
 use Rattle.std.proofs.Math.Nat.{zero-div, zero-mod, mod-lt, pow-zero, pow-suc}
 use Rattle.std.proofs.Math.Dec.{eqb_refl}
@@ -13,16 +13,16 @@ use Rattle.rules.specs.Basics.{choose, at, filter}
 use Rattle.rules.specs.Needs.{Need, Gives}
 use Rattle.rules.specs.Program.{slots, Fits, Kept, keptb}
 use Rattle.rules.specs.Preference.{start_lists}
-use Rattle.rules.specs.SmallGates.{bit, need_bit, needs_of, smaller, least_of, fewest, or_zero}
+use Rattle.rules.specs.SmallGates.{bit, need_bit, needs_of, smaller, least_of, fewest}
 use Rattle.laws.specs.Tests.{tests, T-eqb, bool-ext}
 use Rattle.laws.specs.Lists.{map-mem, map-mem⁻¹, filter-mem, filter-mem⁻¹}
 use Rattle.laws.specs.Counting.{range-below, largest-same}
-use Rattle.laws.specs.Program.{kept-is, slots-pos}
+use Rattle.laws.specs.Program.{kept-is}
 use Rattle.laws.specs.Best.{start-lists-all, start-lists-fit}
 use Rattle.laws.specs.Pairs.{pair-first, pair-second, pair-before}
 use Rattle.laws.specs.SmallGates.{bit-giver, bit-taker, bit_in, of-bit, needs-are}
-use Rattle.laws.specs.Fewest.{LeastOf, least-is, least-same}
-use Rattle.needsets.specs.Starts.{digits, starts_next, conflicts, conflict_free, keeps, keeping, or_less, least_with, fewest_by}
+use Rattle.laws.specs.Fewest.{least-same}
+use Rattle.needsets.specs.Starts.{digits, starts_next, conflicts, conflict_free, keeps, keeping, as_option, or_less, least_with, fewest_by}
 
 -- ---- the test of every place, and the rules' test of the needs
 
@@ -195,37 +195,33 @@ tried-mem⁻¹ n (suc c) t m = go (Memᴰ.cases_cons m) (tried-mem⁻¹ n c t)
     go (inl e) r = (c, omega arith, e)
     go (inr w) r = let v = r w in (v.0, omega (arith, v.1), v.2)
 
--- one list more: no list has 0 slots, so 0 stands for none alone
-or-less-is : (t : List ℕ) (l : List (List ℕ)) → or_less (slots t) (or_zero (least_of (map slots l))) ≡ or_zero (some (smaller (slots t) (least_of (map slots l))))
-unfolding or_less or_zero smaller choose
-or-less-is t l = go (least_of (map slots l)) (least-is (map slots l))
-  where
-    go : (o : Option ℕ) → LeastOf (map slots l) o → or_less (slots t) (or_zero o) ≡ or_zero (some (smaller (slots t) o))
-    go none h = refl
-    go (some v) h =
-        let there : 1 ≤ v = map-mem⁻¹ (λ x. 1 ≤ x) slots l (λ u _. slots-pos u) v h.0 in
-        ap (λ (z : Bool). choose z (slots t) (min (slots t) v)) (ne_eqb v 0 (λ e. omega arith))
+-- one list more
+or-less-is : (x : ℕ) (o : Maybe ℕ) → or_less x (as_option o) ≡ smaller x o
+unfolding or_less as_option smaller
+or-less-is x none = refl
+or-less-is x (some v) = refl
 
 -- what the tries find is the least of the slots of the lists that keep the needs
-tries-are : (n m c : ℕ) → fewest_by n m c ≡ or_zero (least_of (map slots (filter (keeping n m) (tried n c))))
-unfolding fewest_by least_with tried filter least_of or_zero choose
+tries-are : (n m c : ℕ) → fewest_by n m c ≡ as_option (least_of (map slots (filter (keeping n m) (tried n c))))
+unfolding fewest_by least_with tried filter least_of as_option choose
 tries-are n m zero = refl
 tries-are n m (suc c) = go (keeping n m (digits n 4 c)) (tries-are n m c)
   where
     rest : List (List ℕ)
     rest = filter (keeping n m) (tried n c)
 
-    go : (z : Bool) → fewest_by n m c ≡ or_zero (least_of (map slots rest))
-        → choose z (or_less (slots (digits n 4 c)) (fewest_by n m c)) (fewest_by n m c) ≡ or_zero (least_of (map slots (choose z (digits n 4 c ∷ rest) rest)))
-    go true e = ap (or_less (slots (digits n 4 c))) e ∙ or-less-is (digits n 4 c) rest
+    go : (z : Bool) → fewest_by n m c ≡ as_option (least_of (map slots rest))
+        → choose z (Some (or_less (slots (digits n 4 c)) (fewest_by n m c))) (fewest_by n m c)
+        ≡ as_option (least_of (map slots (choose z (digits n 4 c ∷ rest) rest)))
+    go true e = ap (λ (l : Option ℕ). Some (or_less (slots (digits n 4 c)) l)) e ∙ ap Some (or-less-is (slots (digits n 4 c)) (least_of (map slots rest)))
     go false e = e
 
 -- "the fewest slots found by trying every start list with starts below n", of at most four jobs
-pub fewest-is : (n m : ℕ) → 1 ≤ n → n ≤ 4 → fewest_by n m (n ^ n) ≡ or_zero (fewest n (needs_of n m))
+pub fewest-is : (n m : ℕ) → 1 ≤ n → n ≤ 4 → fewest_by n m (n ^ n) ≡ as_option (fewest n (needs_of n m))
 unfolding fewest
 fewest-is n m one few =
     tries-are n m (n ^ n)
-    ∙ ap or_zero (least-same (map slots passed) (map slots kept) (map-mem⁻¹ _ slots passed to) (map-mem⁻¹ _ slots kept from))
+    ∙ ap as_option (least-same (map slots passed) (map slots kept) (map-mem⁻¹ _ slots passed to) (map-mem⁻¹ _ slots kept from))
   where
     -- of the lists tried those that pass the test
     passed : List (List ℕ)

@@ -1,5 +1,5 @@
 -- Start lists of four entries, and the ways out of their tests. Assumes nothing.
-use Rattle.std.specs.Prelude.{◌≡◌, true, false, ◌||◌, List, [], ◌∷◌, ℕ, suc, ◌+◌, ◌/◌, ◌%◌, ◌≤◌, ◌<◌, max, length, drop, eqb}
+use Rattle.std.specs.Prelude.{◌≡◌, true, false, ◌||◌, List, [], ◌∷◌, ℕ, suc, ◌+◌, ◌/◌, ◌%◌, ◌≤◌, ◌<◌, max, length, drop, eqb, Option, Some, None}
 use Rattle.std.proofs.Math.Path.{refl}
 use Rattle.std.proofs.Common.{ap, ◌∙◌, arith, add-one, length-drop}
 use borrow.Author.Tests.{eq-eqb, ne_eqb, lt-ltb, le-ltb}
@@ -90,21 +90,21 @@ module _ (n m : ℕ) (t : List ℕ) (j : ℕ) where
 -- ---- the fewest slots so far
 
 -- none so far, this one, or the one before
-pub less-first : (x l : ℕ) → l ≡ 0 → x ≡ or_less x l
-unfolding or_less choose
-less-first x l h = rw (eq-eqb l 0 h) refl
+pub less-first : (x : ℕ) → x ≡ or_less x None
+unfolding or_less
+less-first x = refl
 
-pub less-new : (x l : ℕ) → (l ≡ 0 → ⊥) → x < l → x ≡ or_less x l
-unfolding or_less choose
-less-new x l h w = rw (ne_eqb l 0 h) (omega arith)
+pub less-new : (x l : ℕ) → x < l → x ≡ or_less x (Some l)
+unfolding or_less
+less-new x l w = omega arith
 
-pub less-old : (x l : ℕ) → (l ≡ 0 → ⊥) → l ≤ x → l ≡ or_less x l
-unfolding or_less choose
-less-old x l h w = rw (ne_eqb l 0 h) (omega arith)
+pub less-old : (x l : ℕ) → l ≤ x → l ≡ or_less x (Some l)
+unfolding or_less
+less-old x l w = omega arith
 
-module _ (n m : ℕ) (t : List ℕ) (l : ℕ) where
+module _ (n m : ℕ) (t : List ℕ) (l : Option ℕ) where
   -- the list keeps the needs, or not
-  pub least-with-kept : keeping n m t ≡ true → or_less (slots t) l ≡ least_with n m t l
+  pub least-with-kept : keeping n m t ≡ true → Some (or_less (slots t) l) ≡ least_with n m t l
   unfolding least_with choose
   least-with-kept h = rw h refl
 

@@ -1,5 +1,6 @@
 -- Trying every start list: what its functions give. A need stands at place giver * n + taker. Assumes nothing.
-use Rattle.std.specs.Prelude.{Bool, not, ◌&&◌, ◌||◌, List, [], ◌∷◌, ℕ, zero, suc, ◌+◌, ◌*◌, ◌/◌, ◌%◌, min, ltb, eqb}
+use Rattle.std.specs.Prelude.{Bool, not, ◌&&◌, ◌||◌, List, [], ◌∷◌, ℕ, zero, suc, ◌+◌, ◌*◌, ◌/◌, ◌%◌, min, ltb, eqb, Option, Some, None}
+use Rattle.std.proofs.Math.Option.{Option as Maybe, none, some}
 use Rattle.rules.specs.Basics.{choose, at, imp, all, range}
 use Rattle.rules.specs.Program.{slots}
 use Rattle.rules.specs.SmallGates.{bit}
@@ -29,15 +30,21 @@ keeps n m t j = imp (bit m j) (ltb (at t (j / n)) (at t (j % n)) && imp (starts_
 unfoldable pub keeping : ℕ → ℕ → List ℕ → Bool
 keeping n m t = all (keeps n m t) (range (n * n) 0)
 
--- the smaller of x and l, where 0 is none
-unfoldable pub or_less : ℕ → ℕ → ℕ
-or_less x l = choose (eqb l 0) x (min x l)
+-- a number that may be there, as the program's Option
+unfoldable pub as_option : Maybe ℕ → Option ℕ
+as_option none = None
+as_option (some x) = Some x
+
+-- the smaller of x and a number that may be there
+unfoldable pub or_less : ℕ → Option ℕ → ℕ
+or_less x None = x
+or_less x (Some l) = min x l
 
 -- the fewest slots, with those of the list t if it keeps the needs
-unfoldable pub least_with : ℕ → ℕ → List ℕ → ℕ → ℕ
-least_with n m t l = choose (keeping n m t) (or_less (slots t) l) l
+unfoldable pub least_with : ℕ → ℕ → List ℕ → Option ℕ → Option ℕ
+least_with n m t l = choose (keeping n m t) (Some (or_less (slots t) l)) l
 
--- the fewest slots of the lists with an index below c, each of four entries; 0 for none
-unfoldable pub fewest_by : ℕ → ℕ → ℕ → ℕ
-fewest_by n m zero = 0
+-- the fewest slots of the lists with an index below c, each of four entries
+unfoldable pub fewest_by : ℕ → ℕ → ℕ → Option ℕ
+fewest_by n m zero = None
 fewest_by n m (suc c) = least_with n m (digits n 4 c) (fewest_by n m c)

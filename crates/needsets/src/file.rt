@@ -32,11 +32,9 @@ fn put_jobs(jobs: usize, file: &mut [u8]) -> usize
     ensures bytes { file.new ≡ put 8 (joined job_field (range jobs 0)) file.old }
 {
     let mut at = 8;
-    let mut job = 0;
-    while job < jobs {
+    for job in 0..jobs {
         put_job(job, &mut file[at..]);
         at += 6;
-        job += 1;
     }
     at
 }
@@ -57,10 +55,7 @@ fn put_needs(jobs: usize, number: usize, file: &mut [u8], first: usize) -> usize
     ensures bytes { file.new ≡ put first (joined need_field (needs_of jobs number)) file.old }
 {
     let mut at = first;
-    let mut next = 0;
-    while next < jobs * jobs {
-        let place = next;
-        next += 1;
+    for place in 0..jobs * jobs {
         if is_set(number, place) {
             put_need(place / jobs, place % jobs, &mut file[at..]);
             at += 5;

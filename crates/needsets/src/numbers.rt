@@ -27,14 +27,7 @@ fn is_ready(jobs: usize, number: usize, marked: usize, job: usize) -> bool
     requires { (jobs ≤ 4) × (job < jobs) }
     ensures { result ≡ is_ready jobs number marked job }
 {
-    let mut giver = 0;
-    while giver < jobs {
-        if waits(jobs, number, marked, job, giver) {
-            return false;
-        }
-        giver += 1;
-    }
-    true
+    (0..jobs).all(|giver| !waits(jobs, number, marked, job, giver))
 }
 
 // A round: the jobs whose givers were all marked before.
@@ -43,9 +36,7 @@ fn mark(jobs: usize, number: usize, marked: usize) -> usize
     ensures { result ≡ marked_bits jobs number marked }
 {
     let mut next = 0;
-    let mut job = jobs;
-    while 0 < job {
-        job -= 1;
+    for job in (0..jobs).rev() {
         next *= 2;
         if is_ready(jobs, number, marked, job) {
             next += 1;
@@ -60,10 +51,8 @@ pub fn is_gate(jobs: usize, number: usize) -> bool
     ensures { result ≡ gateb jobs number }
 {
     let mut marked = 0;
-    let mut round = 0;
-    while round < jobs {
+    for _ in 0..jobs {
         marked = mark(jobs, number, marked);
-        round += 1;
     }
     marked == (1 << jobs) - 1
 }

@@ -3,8 +3,8 @@
 // A list has an index: its starts are the digits in base `jobs`, the first job's the lowest; the entries behind the last job are 0.
 ghost use Rattle.std.specs.Prelude.{◌≡◌, ◌+◌, ◌*◌, ◌^◌, ◌≤◌, ◌<◌, max, length, eqb};
 ghost use Rattle.rules.specs.Program.{slots};
-ghost use Rattle.rules.specs.SmallGates.{needs_of, fewest, or_zero};
-ghost use Rattle.needsets.specs.Starts.{digits, conflicts, conflict_free, keeps, keeping, least_with};
+ghost use Rattle.rules.specs.SmallGates.{needs_of, fewest};
+ghost use Rattle.needsets.specs.Starts.{digits, conflicts, conflict_free, keeps, keeping, as_option, least_with};
 
 use crate::numbers::is_set;
 
@@ -13,20 +13,18 @@ fn put_starts(jobs: usize, index: usize, starts: &mut [u8; 4])
     requires { (1 ≤ jobs) × (jobs ≤ 4) × (length starts.old ≡ 4) }
     ensures { starts.new ≡ digits jobs 4 index }
 {
-    let second = index / jobs;
-    let third = second / jobs;
-    let fourth = third / jobs;
-    starts[0] = (index % jobs) as u8;
-    starts[1] = (second % jobs) as u8;
-    starts[2] = (third % jobs) as u8;
-    starts[3] = (fourth % jobs) as u8;
+    let mut rest = index;
+    for start in starts.iter_mut() {
+        *start = (rest % jobs) as u8;
+        rest /= jobs;
+    }
 }
 
 // Is the taker's start the slot right after the giver's?
 fn is_next(giver: u8, taker: u8) -> bool
     ensures { result ≡ eqb (giver + 1) taker }
 {
-    (giver as usize) + 1 == taker as usize
+    usize::from(giver) + 1 == usize::from(taker)
 }
 
 // Is there a conflict with the other place: another need, of the same giver or the same taker, whose taker starts right after its giver too?
@@ -56,14 +54,7 @@ fn is_conflict_free(jobs: usize, number: usize, starts: &[u8; 4], place: usize) 
     requires { (1 ≤ jobs) × (jobs ≤ 4) × (place < jobs * jobs) }
     ensures { result ≡ conflict_free jobs number starts.now place }
 {
-    let mut other = 0;
-    while other < jobs * jobs {
-        if is_conflict(jobs, number, starts, place, other) {
-            return false;
-        }
-        other += 1;
-    }
-    true
+    (0..jobs * jobs).all(|other| !is_conflict(jobs, number, starts, place, other))
 }
 
 // If there is a need at this place: does its taker start later than its giver, and where it starts right after it, is there no conflict?
@@ -90,21 +81,7 @@ fn are_kept(jobs: usize, number: usize, starts: &[u8; 4]) -> bool
     requires { (1 ≤ jobs) × (jobs ≤ 4) }
     ensures { result ≡ keeping jobs number starts.now }
 {
-    let mut place = 0;
-    while place < jobs * jobs {
-        if !is_kept(jobs, number, starts, place) {
-            return false;
-        }
-        place += 1;
-    }
-    true
-}
-
-// The larger of two starts.
-fn larger(a: u8, b: u8) -> u8
-    ensures { result ≡ max a b }
-{
-    if a < b { b } else { a }
+    (0..jobs * jobs).all(|place| is_kept(jobs, number, starts, place))
 }
 
 // The largest start plus one.
@@ -112,13 +89,12 @@ fn slots(starts: &[u8; 4]) -> usize
     requires { length starts.now ≡ 4 }
     ensures { result ≡ slots starts.now }
 {
-    let back = larger(starts[2], starts[3]);
-    let all = larger(starts[0], larger(starts[1], back));
-    (all as usize) + 1
+    let last = starts[0].max(starts[1].max(starts[2].max(starts[3])));
+    usize::from(last) + 1
 }
 
-// The smaller of the fewest slots so far (0 for none) and those of this list, if it keeps the needs; else those so far.
-fn least_with(jobs: usize, number: usize, starts: &[u8; 4], least: usize) -> usize
+// The fewest slots: the smaller of those so far and those of this list, if it keeps the needs; else those so far.
+fn least_with(jobs: usize, number: usize, starts: &[u8; 4], least: Option<usize>) -> Option<usize>
     requires { (1 ≤ jobs) × (jobs ≤ 4) × (length starts.now ≡ 4) }
     ensures { result ≡ least_with jobs number starts.now least }
 {
@@ -126,10 +102,10 @@ fn least_with(jobs: usize, number: usize, starts: &[u8; 4], least: usize) -> usi
         return least;
     }
     let size = slots(starts);
-    if least == 0 {
-        return size;
+    match least {
+        Some(fewest) => Some(size.min(fewest)),
+        None => Some(size),
     }
-    if size < least { size } else { least }
 }
 
 // How many start lists so many jobs have.
@@ -137,27 +113,20 @@ fn list_count(jobs: usize) -> usize
     requires { (1 ≤ jobs) × (jobs ≤ 4) }
     ensures { result ≡ jobs ^ jobs }
 {
-    match jobs {
-        1 => 1,
-        2 => 4,
-        3 => 27,
-        _ => 256,
-    }
+    jobs.pow(jobs as u32)
 }
 
-// The fewest slots, 0 where no list keeps the needs.
-pub fn fewest(jobs: usize, number: usize) -> usize
+// The fewest slots; None where no list keeps the needs.
+pub fn fewest(jobs: usize, number: usize) -> Option<usize>
     requires { (1 ≤ jobs) × (jobs ≤ 4) }
-    ensures { result ≡ or_zero (fewest jobs (needs_of jobs number)) }
+    ensures { result ≡ as_option (fewest jobs (needs_of jobs number)) }
 {
     let many = list_count(jobs);
     let mut starts = [0; 4];
-    let mut least = 0;
-    let mut index = 0;
-    while index < many {
+    let mut least = None;
+    for index in 0..many {
         put_starts(jobs, index, &mut starts);
         least = least_with(jobs, number, &starts, least);
-        index += 1;
     }
     least
 }

@@ -45,6 +45,8 @@ abbrev pub ruled_boards : List Need → Seats → List ℕ
 ruled_boards needs seats = map (λ r. r.board) (rules_rows needs (rows_of seats)).rows
 
 -- they are those that the program prints
-pub both-boards : (ruled_boards figure_needs figure_seats ≡ 1 ∷ 2 ∷ 1 ∷ 1 ∷ 2 ∷ 1 ∷ 2 ∷ 1 ∷ []) × (ruled_boards [] first_seats ≡ 1 ∷ 2 ∷ 3 ∷ 4 ∷ 5 ∷ 6 ∷ 7 ∷ 8 ∷ [])
-unfolding rules_rows with_boards rows_from boards sweep slot_boards inherit_in first_fit_in giver_before inherit first_fit give lowest_free slots largest choose has any
+pub both-boards : (ruled_boards figure_needs figure_seats ≡ 1 ∷ 2 ∷ 1 ∷ 1 ∷ 2 ∷ 1 ∷ 2 ∷ 1 ∷ [])
+    × (ruled_boards [] first_seats ≡ 1 ∷ 2 ∷ 3 ∷ 4 ∷ 5 ∷ 6 ∷ 7 ∷ 8 ∷ [])
+unfolding rules_rows with_boards rows_from boards sweep slot_boards inherit_in first_fit_in giver_before inherit first_fit give lowest_free slots
+    largest choose has any
 both-boards = (refl, refl)

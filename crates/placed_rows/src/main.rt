@@ -9,12 +9,10 @@ ghost use Rattle.placed_rows.specs.Seats.{SeatsIn, seat_words, words_from, place
 ghost use Rattle.placed_rows.specs.Seats.{rows_of, RowsRuled, SeatsRowed, SeatsRuled};
 ghost use Rattle.placed_rows.specs.Figure.{figure_needs, figure_seats, first_seats};
 
-use fields::wide;
 use layout::{PREV, TABLES, WHO};
 use sizes::{MAX_JOBS, PLACES};
 use slotboards::JobRecord;
-
-const STDOUT_FILENO: i32 = 1;
+use streams::STDOUT_FILENO;
 
 // Where eight jobs run: the slot of each, its place, and the set of the places of the slot before whose jobs give to it.
 #[derive(Clone, Copy)]
@@ -58,8 +56,8 @@ fn seat_job(tables: &mut [u16; TABLES], job: usize, slot: u8, place: u8, before:
     requires { (job < max_jobs) × (slot < max_limit) × (place < max_width) }
     ensures { tables.new ≡ seat_words job slot place before tables.old }
 {
-    let s = wide(slot);
-    let p = wide(place);
+    let s = usize::from(slot);
+    let p = usize::from(place);
     tables[WHO + PLACES * s + p] = job as u16;
     tables[PREV + PLACES * s + p] = before;
 }
@@ -69,12 +67,10 @@ fn seat_jobs(seats: Seats, tables: &mut [u16; TABLES], places: &mut [u8; MAX_JOB
     requires { SeatsIn seats }
     ensures { (tables.new ≡ words_from seats 8 tables.old) × (places.new ≡ places_from seats 8 places.old) }
 {
-    let mut job = 0;
-    while job < 8 {
+    for job in 0..8 {
         let place = seats.places[job];
         seat_job(tables, job, seats.slots[job], place, seats.before[job]);
         places[job] = place;
-        job += 1;
     }
 }
 
@@ -82,16 +78,7 @@ fn seat_jobs(seats: Seats, tables: &mut [u16; TABLES], places: &mut [u8; MAX_JOB
 fn rows_of(slots: [u8; 8]) -> [JobRecord; 8]
     ensures { result ≡ rows_from slots 8 }
 {
-    let mut rows = [JobRecord { start: 0, board: 0 }; 8];
-    let mut job = 0;
-    while job < 8 {
-        rows[job] = JobRecord {
-            start: slots[job],
-            board: 0,
-        };
-        job += 1;
-    }
-    rows
+    slots.map(|start| JobRecord { start, board: 0 })
 }
 
 // The records of eight jobs with these seats, with their boards.
@@ -102,8 +89,7 @@ fn boarded(seats: Seats, slots: usize) -> [JobRecord; 8]
     let mut tables = [0; TABLES];
     let mut places = [0; MAX_JOBS];
     seat_jobs(seats, &mut tables, &mut places);
-    let starts = seats.slots;
-    placed(rows_of(starts), &tables, &places, slots)
+    placed(rows_of(seats.slots), &tables, &places, slots)
 }
 
 // The records of Figure 1.
@@ -123,12 +109,9 @@ fn without_needs() -> [JobRecord; 8]
 // A line with the boards of eight jobs.
 fn show(label: &[u8], rows: [JobRecord; 8]) {
     io::write_all(STDOUT_FILENO, label);
-    let mut i = 0;
-    while i < 8 {
-        let job = rows[i];
+    for job in &rows {
         io::write_all(STDOUT_FILENO, b" ");
-        io::print_decimal(STDOUT_FILENO, job.board as u64);
-        i += 1;
+        io::print_decimal(STDOUT_FILENO, u64::from(job.board));
     }
     io::write_all(STDOUT_FILENO, b"\n");
 }

@@ -13,8 +13,8 @@ use Rattle.rules.specs.Basics.{choose, at, range, Distinct}
 use Rattle.laws.specs.Tests.{T-ltb, by-choice}
 use Rattle.laws.specs.Counting.{pigeonhole, range-below, length-range}
 use Rattle.jobset.specs.declared.Set.{Set}
-use Rattle.jobset.specs.Sets.{member, empty, without, members, Subset}
-use Rattle.jobset.specs.Membership.{member-empty, without-same, without_other}
+use Rattle.jobset.specs.Sets.{member, without, members, Subset}
+use Rattle.jobset.specs.Membership.{without-same, without_other}
 use Rattle.jobset.specs.Inclusion.{subset-refl, without-subset}
 use Rattle.jobset.specs.Members.{in_members}
 use Rattle.jobset.specs.Tests.{present}
@@ -55,7 +55,8 @@ sorted-distinct who [] s = tt
 sorted-distinct who (p ∷ ps) s = (λ m. omega (arith, s.0 p m), sorted-distinct who ps s.1)
 
 sorted-few : (who : ℕ → ℕ) (ps : List ℕ) → Sorted who ps → ((p : ℕ) → Memᴰ p ps → p < max_width) → length ps ≤ max_width
-sorted-few who ps s f = rw (length-range max_width 0) at (pigeonhole ps (range max_width 0) (sorted-distinct who ps s) (λ p m. (range-below max_width p).1 (f p m)))
+sorted-few who ps s f =
+    rw (length-range max_width 0) at (pigeonhole ps (range max_width 0) (sorted-distinct who ps s) (λ p m. (range-below max_width p).1 (f p m)))
 
 -- two with the same places are the same
 sorted-same : (who : ℕ → ℕ) (ps qs : List ℕ) → Sorted who ps → Sorted who qs → ((x : ℕ) → Memᴰ x ps ↔ Memᴰ x qs) → ps ≡ qs
@@ -97,23 +98,11 @@ row_next a k v l = ap₂ (λ (x : ℕ) (xs : List ℕ). x ∷ xs) (get_or-set_sa
 
 -- ---- the highest job of a set, turn by turn
 
--- the places i and those of a set
-abbrev pub And : ℕ → Set → ℕ → Type 0
-And i others p = (p ≡ i) ⊎ (member others p ≡ true)
-
--- a set by one of its members and the others
-pub in_and : (places : Set) (i : ℕ) → member places i ≡ true → (p : ℕ) → (member places p ≡ true) ↔ And i (without places i) p
-in_and places i m p = (λ k. go k (ℕ_discrete p i), ⊎_elim (λ e. rw e m) (unfold Subset in without-subset places i p))
-  where
-    go : member places p ≡ true → Dec (p ≡ i) → And i (without places i) p
-    go k (yes e) = inl e
-    go k (no n) = inr (without_other places i p n ∙ k)
-
 -- `last` has the highest job of the places that are not in `rest`
-pub record Leading (who : ℕ → ℕ) (In : ℕ → Type 0) (last : ℕ) (rest : Set) : Type 0 where
-  pub is-in : In last
-  pub inside : (p : ℕ) → member rest p ≡ true → In p
-  pub above : (p : ℕ) → In p → (member rest p ≡ true) ⊎ (who p ≤ who last)
+pub record Leading (who : ℕ → ℕ) (all : List ℕ) (last : ℕ) (rest : List ℕ) : Type 0 where
+  pub is-in : Memᴰ last all
+  pub inside : (p : ℕ) → Memᴰ p rest → Memᴰ p all
+  pub above : (p : ℕ) → Memᴰ p all → Memᴰ p rest ⊎ (who p ≤ who last)
 
 module _ (who : ℕ → ℕ) where
   later-above : (p q : ℕ) → (who p ≤ who (later_of who p q)) × (who q ≤ who (later_of who p q))
@@ -122,30 +111,29 @@ module _ (who : ℕ → ℕ) where
       (λ t. let l = (T-ltb (who p) (who q)).0 t in (omega arith, omega arith))
       (λ n. let l : ¬ (who p < who q) = λ z. n ((T-ltb (who p) (who q)).1 z) in (omega arith, omega arith))
 
-  pub leading-start : (i : ℕ) (others : Set) → Leading who (And i others) i others
-  leading-start i others = record {
-    is-in = inl refl;
-    inside = λ p m. inr m;
-    above = λ p o. ⊎_elim (λ e. inr (let z : who p ≡ who i = ap who e in omega arith)) (λ m. inl m) o;
+  pub leading-start : (i : ℕ) (rest : List ℕ) → Leading who (i ∷ rest) i rest
+  leading-start i rest = record {
+    is-in = Memᴰ.head refl;
+    inside = λ p m. Memᴰ.tail m;
+    above = λ p m. ⊎_elim (λ e. inr (let z : who p ≡ who i = ap who e in omega arith)) inl (Memᴰ.cases_cons m);
   }
 
-pub leading-next : {who : ℕ → ℕ} {In : ℕ → Type 0} {last : ℕ} {rest : Set} (i : ℕ) → Leading who In last rest → member rest i ≡ true
-    → Leading who In (later_of who last i) (without rest i)
-unfolding later_of Subset
-leading-next {who} {In} {last} {rest} i g m = record {
-  is-in = by-choice In (ltb (who last) (who i)) (λ _. g.inside i m) (λ _. g.is-in);
-  inside = λ p k. g.inside p (without-subset rest i p k);
-  above = λ p k. ⊎_elim (λ r. ⊎_elim (λ e. inr (is-i p e)) inl ((in_and rest i m p).0 r)) (λ l. inr (omega (arith, later-above who last i))) (g.above p k);
+pub leading-next : {who : ℕ → ℕ} {all : List ℕ} {last : ℕ} (i : ℕ) (rest : List ℕ) → Leading who all last (i ∷ rest)
+    → Leading who all (later_of who last i) rest
+unfolding later_of
+leading-next {who} {all} {last} i rest g = record {
+  is-in = by-choice (λ p. Memᴰ p all) (ltb (who last) (who i)) (λ _. g.inside i (Memᴰ.head refl)) (λ _. g.is-in);
+  inside = λ p m. g.inside p (Memᴰ.tail m);
+  above = λ p m. ⊎_elim (λ r. ⊎_elim (λ e. inr (is-i p e)) inl (Memᴰ.cases_cons r)) (λ l. inr (omega (arith, later-above who last i))) (g.above p m);
 }
   where
     is-i : (p : ℕ) → p ≡ i → who p ≤ who (later_of who last i)
     is-i p e = let z : who p ≡ who i = ap who e in omega (arith, later-above who last i)
 
-pub leading_end : {who : ℕ → ℕ} {places : Set} {i last : ℕ} {rest : Set} → member places i ≡ true → Leading who (And i (without places i)) last rest
-    → rest ≡ empty → Last who places last
-leading_end {who} {places} {i} {last} {rest} m g e = record {
-  is_member = (in_and places i m last).1 g.is-in;
-  highest = λ p k. ⊎_elim (λ r. absurd (present (member rest p) r (rw e (member-empty p)))) (λ l. l) (g.above p ((in_and places i m p).0 k));
+pub leading_end : {who : ℕ → ℕ} {places : Set} {last : ℕ} → Eight places → Leading who (members places) last [] → Last who places last
+leading_end {who} {places} {last} small g = record {
+  is_member = ((in_members places last).0 g.is-in).1;
+  highest = λ p k. ⊎_elim (λ m. absurd (Memᴰ.not-nil m)) (λ l. l) (g.above p ((in_members places p).1 (omega (arith, small p k), k)));
 }
 
 -- ---- the row, turn by turn
@@ -211,14 +199,14 @@ module _ {who : ℕ → ℕ} {places : Set} (able : Listable who places) where
       pub listing-next : count < length row → Listing who places (set row count p) (count + 1) (without rest p)
       listing-next h = fronted (set row count p) (count + 1) (ap (row_from (set row count p)) (add-one count) ∙ row_next row count p h)
 
-    pub listing-end : count ≤ max_width → rest ≡ empty → Listed who places row count
+    pub listing-end : count ≤ max_width → members rest ≡ [] → Listed who places row count
     listing-end h e = record {
       few = h;
       row_is = sorted-same who (row_from row count) (by_number who (members places)) g.sorted
           (row-sorted who (members places) (members-distinct places) (λ p q m n. able.apart p q ((in_members places p).0 m).1 ((in_members places q).0 n).1))
           (λ x. (
             λ m. let w = g.within x m in (in_row who (members places) x).1 ((in_members places x).1 (omega (arith, able.eight x w), w)),
-            λ m. ⊎_elim (λ k. k) (λ r. absurd (present (member rest x) r (rw e (member-empty x))))
+            λ m. ⊎_elim (λ k. k) (λ r. absurd (Memᴰ.not-nil (rw e at ((in_members rest x).1 (omega (arith, listing-eight x r), r)))))
                 (g.split x ((in_members places x).0 ((in_row who (members places) x).0 m)).1),
           ));
     }

@@ -1,7 +1,7 @@
 -- The numbers with just so many binary digits 1, in falling order. A number takes as many places of a row of at most eight as it has digits 1,
 -- so no other number need be tried. Assumes nothing.
 use Rattle.std.proofs.Common.{eqb-true, ne_eqb, sym, ap, ◌∙◌, true≢false, ⊎_elim}
-use Rattle.std.specs.Prelude.{◌≡◌, Bool, ◌&&◌, ◌↔◌, ltb, leb, length}
+use Rattle.std.specs.Prelude.{◌≡◌, Bool, ◌&&◌, ◌↔◌, ltb, leb, length, Option, None, Some}
 use Rattle.std.proofs.Math.Path.{refl}
 use Rattle.std.proofs.Math.Bool.{true, false}
 use mathlib.Core.List.Memᴰ
@@ -75,8 +75,8 @@ module _ (count : ℕ) where
   end-many zero m e = absurd (omega arith)
   end-many (suc n) m e = go (eqb (digits_of n) count) refl (end-many n m) e
     where
-      go : (t : Bool) → eqb (digits_of n) count ≡ t → (end_below count n ≡ suc m → digits_of m ≡ count) → choose t (suc n) (end_below count n) ≡ suc m
-          → digits_of m ≡ count
+      go : (t : Bool) → eqb (digits_of n) count ≡ t → (end_below count n ≡ suc m → digits_of m ≡ count)
+          → choose t (suc n) (end_below count n) ≡ suc m → digits_of m ≡ count
       go true q r e = let z : n ≡ m = omega arith in rw (← z) (eqb-true (digits_of n) count q)
       go false q r e = r e
 
@@ -86,22 +86,92 @@ module _ (count : ℕ) where
   end_none zero f = refl
   end_none (suc n) f = rw (ne_eqb (digits_of n) count (f n (omega arith))) (end_none n (λ m l. f m (omega arith)))
 
+-- ---- the numbers, in falling order
+
+-- those below b with just so many digits 1
+unfoldable pub numbers_below : ℕ → ℕ → List Set
+numbers_below count zero = []
+numbers_below count (suc n) =
+    let rest = numbers_below count n in
+    choose (eqb (digits_of n) count) (record { bits = n } ∷ rest) rest
+
+-- one and those below it with as many; none of none
+abbrev pub numbers_from : Option ℕ → List Set
+numbers_from None = []
+numbers_from (Some n) = record { bits = n } ∷ numbers_below (digits_of n) n
+
+-- one more than the first; 0 where there is none
+abbrev pub end_of : List Set → ℕ
+end_of [] = 0
+end_of (x ∷ xs) = suc x.bits
+
+module _ (count : ℕ) where
+  pub end-of-numbers : (b : ℕ) → end_of (numbers_below count b) ≡ end_below count b
+  unfolding end_below numbers_below choose
+  end-of-numbers zero = refl
+  end-of-numbers (suc n) = go (eqb (digits_of n) count) (end-of-numbers n)
+    where
+      go : (t : Bool) → end_of (numbers_below count n) ≡ end_below count n
+          → end_of (choose t (record { bits = n } ∷ numbers_below count n) (numbers_below count n)) ≡ choose t (suc n) (end_below count n)
+      go true e = refl
+      go false e = e
+
+  -- there is none below the end 0
+  pub numbers-none : (b : ℕ) → end_below count b ≡ 0 → numbers_below count b ≡ []
+  unfolding end_below numbers_below choose
+  numbers-none zero e = refl
+  numbers-none (suc n) e = go (eqb (digits_of n) count) (numbers-none n) e
+    where
+      go : (t : Bool) → (end_below count n ≡ 0 → numbers_below count n ≡ []) → choose t (suc n) (end_below count n) ≡ 0
+          → choose t (record { bits = n } ∷ numbers_below count n) (numbers_below count n) ≡ []
+      go true r e = absurd (omega arith)
+      go false r e = r e
+
+  -- the first is right below the end
+  numbers-first : (b m : ℕ) → end_below count b ≡ suc m → numbers_below count b ≡ record { bits = m } ∷ numbers_below count m
+  unfolding end_below numbers_below choose
+  numbers-first zero m e = absurd (omega arith)
+  numbers-first (suc n) m e = go (eqb (digits_of n) count) (numbers-first n m) e
+    where
+      go : (t : Bool) → (end_below count n ≡ suc m → numbers_below count n ≡ record { bits = m } ∷ numbers_below count m)
+          → choose t (suc n) (end_below count n) ≡ suc m
+          → choose t (record { bits = n } ∷ numbers_below count n) (numbers_below count n) ≡ record { bits = m } ∷ numbers_below count m
+      go true r e = let z : n ≡ m = omega arith in ap (λ (k : ℕ). record { bits = k } ∷ numbers_below count k) z
+      go false r e = r e
+
+  pub numbers-some : (b m : ℕ) → end_below count b ≡ suc m → numbers_from (Some m) ≡ numbers_below count b
+  numbers-some b m e =
+      ap (λ (k : ℕ). record { bits = m } ∷ numbers_below k m) (end-many count b m e) ∙ sym (numbers-first b m e)
+
+-- a turn: behind the number that is taken off come those below it with as many
+pub numbers-turn : (o p : Option ℕ) (x : Set) → numbers_from o ≡ x ∷ numbers_from p → numbers_from p ≡ numbers_below (digits_of x.bits) x.bits
+numbers-turn None p x e = cc
+numbers-turn (Some n) p x e =
+    let z : record { bits = n } ≡ x = cc in
+    let t : numbers_from p ≡ numbers_below (digits_of n) n = cc in
+    t ∙ ap (λ (y : Set). numbers_below (digits_of y.bits) y.bits) z
+
+-- the end of what is left then
+pub end-turn : (o p : Option ℕ) (x : Set) → numbers_from o ≡ x ∷ numbers_from p → end_of (numbers_from p) ≡ end_below (digits_of x.bits) x.bits
+end-turn o p x e = ap end_of (numbers-turn o p x e) ∙ end-of-numbers (digits_of x.bits) x.bits
+
 -- n is the end of the numbers with so many digits 1 below 2 ^ size, or below one of these
 pub record Ended (count size n : ℕ) : Type 0 where
   pub below : ℕ
   pub within : below ≤ 2 ^ size
   pub is-end : n ≡ end_below count below
 
-module _ {count size n : ℕ} (g : Ended count size n) (l : 0 < n) where
-  pub ended-low : n - 1 < 2 ^ size
+-- the number right below the end
+module _ {count size m : ℕ} (g : Ended count size (suc m)) where
+  pub ended-low : m < 2 ^ size
   ended-low = omega (arith, g.is-end, g.within, end-le count g.below)
 
-  pub ended-many : digits_of (n - 1) ≡ count
-  ended-many = end-many count g.below (n - 1) (omega (arith, g.is-end))
+  pub ended-many : digits_of m ≡ count
+  ended-many = end-many count g.below m (sym g.is-end)
 
   -- so is the next end
-  pub ended-next : (m : ℕ) → m ≡ end_below (digits_of (n - 1)) (n - 1) → Ended count size m
-  ended-next m e = record { below = n - 1; within = omega (arith, ended-low); is-end = e ∙ rw ended-many refl }
+  pub ended-next : (n : ℕ) → n ≡ end_below (digits_of m) m → Ended count size n
+  ended-next n e = record { below = m; within = omega (arith, ended-low); is-end = e ∙ rw ended-many refl }
 
 -- ---- the places that a number takes
 
@@ -232,7 +302,8 @@ module _ (n : ℕ) (h : n < place_sets) where
   unfolding is_next choose
   passes = go (is_empty (upper n)) ((T-all is_next (range place_sets 0)).0 all-next n ((range-below place_sets n).1 h))
     where
-      go : (b : Bool) → T (choose b (eqb (end_below (digits_of n) n) 0) (moves n)) → (b ≡ true → end_below (digits_of n) n ≡ 0) × (b ≡ false → T (moves n))
+      go : (b : Bool) → T (choose b (eqb (end_below (digits_of n) n) 0) (moves n))
+          → (b ≡ true → end_below (digits_of n) n ≡ 0) × (b ≡ false → T (moves n))
       go true t = (λ _. (T-eqb (end_below (digits_of n) n) 0).0 t, λ e. absurd (true≢false e))
       go false t = (λ e. absurd (true≢false (sym e)), λ _. t)
 

@@ -1,6 +1,6 @@
 -- What a number takes of a row of places: the places at its digits 1, or nothing where two of them share a giver in the slot before. They are
 -- those of crate places, in the other order. Assumes nothing.
-use Rattle.std.specs.Prelude.{◌≡◌, ◌⊎◌, ◌↔◌, Bool, ◌&&◌, ℕ, ◌<◌}
+use Rattle.std.specs.Prelude.{◌≡◌, ◌⊎◌, ◌↔◌, Bool, ◌&&◌, ℕ, ◌<◌, Option, None, Some}
 use Rattle.std.proofs.Math.Path.{refl, ap}
 use Rattle.std.proofs.Common.{sym, ◌∙◌, inl, inr, true≢false, arith}
 use Rattle.std.proofs.Math.Logic.{⊎_elim}
@@ -16,56 +16,57 @@ use Rattle.jobset.specs.Sets.{member, empty, one, with, union, intersection, is_
 use Rattle.jobset.specs.Membership.{member-empty, in_one, in-union, set-ext}
 use Rattle.jobset.specs.Members.{in_members}
 use Rattle.jobset.specs.Tests.{absent, present, bool-ext}
-use Rattle.places.specs.Rows.{bit-low, empty-says, chosen, places_of, in-places, fitting, fitting-loose}
+use Rattle.places.specs.Rows.{bit-low, chosen, places_of, in-places, fitting, fitting-loose}
 use Rattle.places.specs.Fit.{members-distinct}
 use Rattle.placesets.specs.Listing.{row_from}
-use Rattle.placesets.specs.Numbers.{falling_from, none-falling, chosen-falling, in-falling}
+use Rattle.placesets.specs.Numbers.{falling_from, chosen-falling, in-falling}
 use Rattle.layout.specs.Layout.{place_sets}
 
--- the places of a list one after the other; `places` and `givers` are those so far
-unfoldable pub pick_from : (ℕ → Set) → Set → Set → List ℕ → Set
-pick_from near places givers [] = places
+-- the places of a list one after the other, none where two share a giver; `places` and `givers` are those so far
+unfoldable pub pick_from : (ℕ → Set) → Set → Set → List ℕ → Option Set
+pick_from near places givers [] = Some places
 pick_from near places givers (p ∷ ps) =
     let rest = pick_from near (with places p) (union givers (near p)) ps in
-    choose (is_empty (intersection givers (near p))) rest empty
+    choose (is_empty (intersection givers (near p))) rest None
 
 -- what a number takes of a row
-unfoldable pub picked_of : (ℕ → Set) → List ℕ → Set → Set
+unfoldable pub picked_of : (ℕ → Set) → List ℕ → Set → Option Set
 picked_of near row number = pick_from near empty empty (map (at row) (members number))
 
 -- ---- of a list
 
 module _ (near : ℕ → Set) where
   -- two share a giver
-  from-shared : (ps : List ℕ) (places givers : Set) → fitting near givers ps ≡ false → pick_from near places givers ps ≡ empty
+  from-shared : (ps : List ℕ) (places givers : Set) → fitting near givers ps ≡ false → pick_from near places givers ps ≡ None
   unfolding pick_from fitting choose
   from-shared [] places givers e = absurd (true≢false e)
   from-shared (p ∷ ps) places givers e = go (is_empty (intersection givers (near p))) e (from-shared ps (with places p) (union givers (near p)))
     where
       go : (b : Bool) → (b && fitting near (union givers (near p)) ps) ≡ false
-          → (fitting near (union givers (near p)) ps ≡ false → pick_from near (with places p) (union givers (near p)) ps ≡ empty)
-          → choose b (pick_from near (with places p) (union givers (near p)) ps) empty ≡ empty
+          → (fitting near (union givers (near p)) ps ≡ false → pick_from near (with places p) (union givers (near p)) ps ≡ None)
+          → choose b (pick_from near (with places p) (union givers (near p)) ps) None ≡ None
       go true e r = r e
       go false e r = refl
 
   -- no two do
-  from-fits : (ps : List ℕ) (places givers : Set) (k : ℕ) → fitting near givers ps ≡ true
-      → (member (pick_from near places givers ps) k ≡ true) ↔ ((member places k ≡ true) ⊎ Memᴰ k ps)
+  from-fits : (ps : List ℕ) (places givers : Set) → fitting near givers ps ≡ true
+      → (S : Set) × (pick_from near places givers ps ≡ Some S) × ((k : ℕ) → (member S k ≡ true) ↔ ((member places k ≡ true) ⊎ Memᴰ k ps))
   unfolding pick_from fitting choose with
-  from-fits [] places givers k e = (inl, ⊎_elim (λ m. m) (λ m. absurd (Memᴰ.not-nil m)))
-  from-fits (p ∷ ps) places givers k e = go (is_empty (intersection givers (near p))) e (from-fits ps (union places (one p)) (union givers (near p)) k)
+  from-fits [] places givers e = (places, refl, λ k. (inl, ⊎_elim (λ m. m) (λ m. absurd (Memᴰ.not-nil m))))
+  from-fits (p ∷ ps) places givers e = go (is_empty (intersection givers (near p))) e (from-fits ps (union places (one p)) (union givers (near p)))
     where
-      u : (member (union places (one p)) k ≡ true) ↔ ((member places k ≡ true) ⊎ (member (one p) k ≡ true))
-      u = in-union places (one p) k
-
       go : (b : Bool) → (b && fitting near (union givers (near p)) ps) ≡ true
-          → (fitting near (union givers (near p)) ps ≡ true → (member (pick_from near (union places (one p)) (union givers (near p)) ps) k ≡ true)
-          ↔ ((member (union places (one p)) k ≡ true) ⊎ Memᴰ k ps))
-          → (member (choose b (pick_from near (union places (one p)) (union givers (near p)) ps) empty) k ≡ true)
-          ↔ ((member places k ≡ true) ⊎ Memᴰ k (p ∷ ps))
-      go true e r = (
-        λ m. ⊎_elim (λ w. ⊎_elim inl (λ o. inr (Memᴰ.head ((in_one p k).0 o))) (u.0 w)) (λ w. inr (Memᴰ.tail w)) ((r e).0 m),
-        λ w. (r e).1 (⊎_elim (λ m. inl (u.1 (inl m))) (λ m. ⊎_elim (λ z. inl (u.1 (inr ((in_one p k).1 z)))) inr (Memᴰ.cases_cons m)) w),
+          → (fitting near (union givers (near p)) ps ≡ true → (S : Set) × (pick_from near (union places (one p)) (union givers (near p)) ps ≡ Some S)
+          × ((k : ℕ) → (member S k ≡ true) ↔ ((member (union places (one p)) k ≡ true) ⊎ Memᴰ k ps)))
+          → (S : Set) × (choose b (pick_from near (union places (one p)) (union givers (near p)) ps) None ≡ Some S)
+          × ((k : ℕ) → (member S k ≡ true) ↔ ((member places k ≡ true) ⊎ Memᴰ k (p ∷ ps)))
+      go true e r = let s = r e in (
+        s.0,
+        s.1,
+        λ k. let u = in-union places (one p) k in (
+          λ m. ⊎_elim (λ w. ⊎_elim inl (λ o. inr (Memᴰ.head ((in_one p k).0 o))) (u.0 w)) (λ w. inr (Memᴰ.tail w)) ((s.2 k).0 m),
+          λ w. (s.2 k).1 (⊎_elim (λ m. inl (u.1 (inl m))) (λ m. ⊎_elim (λ z. inl (u.1 (inr ((in_one p k).1 z)))) inr (Memᴰ.cases_cons m)) w),
+        ),
       )
       go false e r = absurd (true≢false (sym e))
 
@@ -124,28 +125,25 @@ module _ (near : ℕ → Set) (row : List ℕ) (number : Set) (low : number.bits
 
   -- no two share a giver: they are the places
   pub picked-places : fitting near empty (chosen (row_from row max_width) number) ≡ true → picked_of near row number
-      ≡ places_of (chosen (row_from row max_width) number)
+      ≡ Some (places_of (chosen (row_from row max_width) number))
   unfolding picked_of
-  picked-places e = set-ext (pick_from near empty empty qs) (places_of ps) (λ k.
-      let w = from-fits near qs empty empty k (same-fits ∙ e) in
-      bool-ext (member (pick_from near empty empty qs) k) (member (places_of ps) k)
+  picked-places e =
+      let s = from-fits near qs empty empty (same-fits ∙ e) in
+      s.1 ∙ ap Some (set-ext s.0 (places_of ps) (λ k.
+      let w = s.2 k in
+      bool-ext (member s.0 k) (member (places_of ps) k)
       (λ m. (in-places ps k).1 ((same-places k).0 (⊎_elim (λ z. absurd (present (member empty k) z (member-empty k))) (λ z. z) (w.0 m))))
-      (λ m. w.1 (inr ((same-places k).1 ((in-places ps k).0 m)))))
+      (λ m. w.1 (inr ((same-places k).1 ((in-places ps k).0 m))))))
 
-  -- two do, where the number has digits and nothing is taken
-  pub picked-shared : is_empty (picked_of near row number) ≡ true → is_empty number ≡ false → fitting near empty (chosen (row_from row max_width) number) ≡ false
-  picked-shared e n = absent (fitting near empty ps) (λ f. present (is_empty number) ((empty-says number).1 (λ k m.
-      (empty-says (places_of ps)).0 (ap is_empty (sym (picked-places f)) ∙ e) (at row k) ((in-places ps (at row k)).1 (place_in k m)))) n)
+  -- two do, where nothing is taken
+  pub picked-shared : picked_of near row number ≡ None → fitting near empty (chosen (row_from row max_width) number) ≡ false
+  picked-shared e = absent (fitting near empty ps) (λ f. let z = picked-places f in cc)
 
-  -- none do, where something is taken or the number has none
-  pub picked_fits : (is_empty (picked_of near row number) ≡ false) ⊎ (is_empty number ≡ true) → fitting near empty (chosen (row_from row max_width) number) ≡ true
-  unfolding picked_of fitting is_empty
-  picked_fits (inl n) = go (fitting near empty ps) refl
+  -- none do, where something is
+  pub picked_fits : (S : Set) → picked_of near row number ≡ Some S → fitting near empty (chosen (row_from row max_width) number) ≡ true
+  unfolding picked_of
+  picked_fits S e = go (fitting near empty ps) refl
     where
       go : (b : Bool) → fitting near empty ps ≡ b → b ≡ true
-      go true e = refl
-      go false e = absurd (present (is_empty empty) refl (ap is_empty (sym (from-shared near qs empty empty (same-fits ∙ e))) ∙ n))
-  picked_fits (inr z) =
-      let e : ps ≡ [] = chosen-falling row max_width number
-      ∙ ap (map (at row)) (none-falling max_width number (λ k _. absent (member number k) ((empty-says number).0 z k))) in
-      rw e refl
+      go true q = refl
+      go false q = let z = from-shared near qs empty empty (same-fits ∙ q) in cc

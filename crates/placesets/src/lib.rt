@@ -2,15 +2,16 @@
 // compared from the lowest number up. The tables are those of crate layout.
 #![tactic(auto)]
 
-ghost use Rattle.std.specs.Prelude.{◌≡◌, true, false, ◌^◌, ◌<◌, ◌≤◌, length};
+ghost use Rattle.std.specs.Prelude.{◌≡◌, [], true, ◌^◌, ◌<◌, ◌≤◌, length, MatchOption};
+ghost use Rattle.std.specs.Iterator.{YieldsFirst, item_count};
 ghost use Rattle.rules.specs.Sizes.{max_limit, max_width};
 ghost use Rattle.rules.specs.Basics.{at};
-ghost use Rattle.jobset.specs.Sets.{member, is_empty};
+ghost use Rattle.jobset.specs.Sets.{member, members};
 ghost use Rattle.threes.specs.Threes.{Eight};
 ghost use Rattle.places.specs.Slot.{near_at};
-ghost use Rattle.layout.specs.Layout.{tables_in, place_sets};
+ghost use Rattle.layout.specs.Layout.{tables_in};
 ghost use Rattle.placesets.specs.Listing.{later_of, Last, Listable, Listed};
-ghost use Rattle.placesets.specs.Numbers.{digits_of, end_below};
+ghost use Rattle.placesets.specs.Numbers.{digits_of, numbers_below, numbers_from};
 ghost use Rattle.placesets.specs.Picking.{picked_of};
 
 use jobset::Set;
@@ -39,18 +40,17 @@ fn later(tables: &[u16; TABLES], slot: usize, p: usize, q: usize) -> usize
     p
 }
 
-// The place with the highest job of a set that is not empty.
-fn last_place(tables: &[u16; TABLES], slot: usize, places: Set) -> usize
-    requires { (slot < max_limit) × Eight places × (is_empty places ≡ false) }
-    ensures { Last ((tables_in tables.now).who slot) places result }
+// The place with the highest job of a set; none where it is empty.
+fn last_place(tables: &[u16; TABLES], slot: usize, places: Set) -> Option<usize>
+    requires { (slot < max_limit) × Eight places }
+    ensures { MatchOption result (members places ≡ []) (λ last. Last ((tables_in tables.now).who slot) places last) }
 {
-    let mut last = places.lowest() as usize;
-    let mut rest = places.rest();
-    while !rest.is_empty() {
-        last = later(tables, slot, last, rest.lowest() as usize);
-        rest = rest.rest();
+    let (first, others) = places.split_first()?;
+    let mut last = first;
+    for p in others {
+        last = later(tables, slot, last, p);
     }
-    last
+    Some(last)
 }
 
 // The places of a set by falling job number; gives how many.
@@ -60,8 +60,8 @@ pub fn by_number(tables: &[u16; TABLES], slot: usize, places: Set, row: &mut [u8
 {
     let mut rest = places;
     let mut count = 0;
-    while !rest.is_empty() {
-        let p = last_place(tables, slot, rest);
+    // No `for` over the set: each turn takes the highest job of those that are left.
+    while let Some(p) = last_place(tables, slot, rest) {
         row[count] = p as u8;
         rest = rest.without(p);
         count += 1;
@@ -71,54 +71,87 @@ pub fn by_number(tables: &[u16; TABLES], slot: usize, places: Set, row: &mut [u8
 
 // ---- the sets of a row
 
-// The numbers with just so many binary digits 1 are tried from the highest down. An end is one more than the next of them, and 0 where there is
-// none: here that of those below 1 << size.
-pub fn first_end(size: usize, count: usize) -> u64
+// Falling numbers with as many binary digits 1: the next of them, if there is one. Each is the set of its digits 1.
+#[derive(Clone, Copy)]
+pub struct FallingNumbers {
+    pub next: Option<u8>,
+}
+
+impl Iterator for FallingNumbers {
+    type Item = Set;
+
+    ghost next_gives = { YieldsFirst (λ s. numbers_from s.next) };
+
+    ghost remaining = { item_count (λ s. numbers_from s.next) };
+
+    fn next(&mut self) -> Option<Set> {
+        let number = self.next?;
+        self.next = next_lower(number);
+        Some(Set::of_byte(number))
+    }
+}
+
+// The numbers below 1 << size with just so many binary digits 1, from the highest down.
+pub fn numbers(size: usize, count: usize) -> FallingNumbers
     requires { size ≤ max_width }
-    ensures { result ≡ end_below count (2 ^ size) }
+    ensures { numbers_from result.next ≡ numbers_below count (2 ^ size) }
+{
+    FallingNumbers {
+        next: highest(size, count),
+    }
+}
+
+// The highest of them, if there is one.
+fn highest(size: usize, count: usize) -> Option<u8>
+    requires { size ≤ max_width }
+    ensures { numbers_from result ≡ numbers_below count (2 ^ size) }
 {
     if size < count {
-        return 0;
+        return None;
     }
-    (1 << size) - (1 << (size - count)) + 1
+    let all: u64 = 1 << size;
+    let low: u64 = 1 << (size - count);
+    Some((all - low) as u8)
 }
 
-// The end of those below a number with as many digits 1. The number and one more have in common what is above its lowest 0; the lowest 1 of
+// The highest below a number with as many digits 1. The number and one more have in common what is above its lowest 0; the lowest 1 of
 // that moves down by one, and the ones below the 0 follow right behind it.
-pub fn next_end(number: Set) -> u64
-    requires { number.bits < place_sets }
-    ensures { result ≡ end_below (digits_of number.bits) number.bits }
+fn next_lower(number: u8) -> Option<u8>
+    ensures { numbers_from result ≡ numbers_below (digits_of number) number }
 {
     let above = Set {
-        bits: number.bits + 1,
+        bits: u64::from(number) + 1,
     };
-    let upper = number.intersection(above);
+    let upper = Set::of_byte(number).intersection(above);
     if upper.is_empty() {
-        return 0;
+        return None;
     }
     let moved = upper.lowest() - above.lowest() - 1;
-    upper.bits - (1 << moved) + 1
+    Some((upper.bits - (1 << moved)) as u8)
 }
 
-// What a number takes of the row, place k where it has the binary digit k; nothing where two of them share a giver in the slot before.
-pub fn pick(tables: &[u16; TABLES], slot: usize, ran: Set, row: &[u8; PLACES], number: Set) -> Set
+// What a number takes of the row, place k where it has the binary digit k; none where two of them share a giver in the slot before.
+pub fn pick(
+    tables: &[u16; TABLES],
+    slot: usize,
+    ran: Set,
+    row: &[u8; PLACES],
+    number: Set,
+) -> Option<Set>
     requires { (slot < max_limit) × ((k : _) → member number k ≡ true → (k < max_width) × (at row.now k < 64)) }
     ensures { result ≡ picked_of (near_at (tables_in tables.now) slot ran) row.now number }
 {
-    let mut rest = number;
     let mut places = Set::EMPTY;
     let mut givers = Set::EMPTY;
-    while !rest.is_empty() {
-        let p = fields::wide(row[rest.lowest() as usize]);
-        let all = givers_at(tables, slot, p);
-        let near = all.intersection(ran);
+    for k in number {
+        let p = usize::from(row[k]);
+        let near = givers_at(tables, slot, p).intersection(ran);
         let both = givers.intersection(near);
         if !both.is_empty() {
-            return Set::EMPTY;
+            return None;
         }
         places = places.with(p);
         givers = givers.union(near);
-        rest = rest.rest();
     }
-    places
+    Some(places)
 }

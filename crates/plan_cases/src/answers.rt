@@ -1,20 +1,17 @@
 // The planner's answer to a job file, as a line.
 ghost use Rattle.std.specs.Prelude.{◌≡◌, length};
 
-use crate::STDOUT_FILENO;
-use sizes::TABLE_BYTES;
+use sizes::{TABLE_BYTES, WORK_BYTES};
+use std::io;
 
 // What both buffers are full of before a call.
 const NOISE: u8 = 170;
 
-// The form for C gives a refusal as this and the number of the question.
-const REFUSED: u32 = 65536;
-
 // A working buffer that is full of noise.
-fn noise() -> [u8; 65536]
+fn noise() -> [u8; WORK_BYTES]
     ensures { 65536 ≡ length result }
 {
-    [NOISE; 65536]
+    [NOISE; WORK_BYTES]
 }
 
 // A table buffer that is full of noise.
@@ -24,158 +21,100 @@ fn noise_table() -> [u8; TABLE_BYTES]
     [NOISE; TABLE_BYTES]
 }
 
-fn print(text: &[u8]) {
-    io::write_all(STDOUT_FILENO, text);
+// A byte behind a blank.
+fn print_byte(rt: &impl Print, byte: u8) -> io::Result<()> {
+    print!(rt; " {byte}")
 }
 
-fn print_number(n: u32) {
-    io::print_decimal(STDOUT_FILENO, n as u64);
-}
-
-// A byte of the table, 0 behind its buffer.
-fn byte(table: &[u8; TABLE_BYTES], at: usize) -> u8 {
-    if at < TABLE_BYTES { table[at] } else { 0 }
-}
-
-fn print_byte(table: &[u8; TABLE_BYTES], at: usize) {
-    print(b" ");
-    print_number(byte(table, at) as u32);
-}
-
-// Every byte of a table of so many.
-fn print_bytes(table: &[u8; TABLE_BYTES], size: usize) {
-    let mut at = 0;
-    while at < size {
-        print_byte(table, at);
-        at += 1;
+// A name and a value of each job: the byte at this place of its row. Each name has one byte, so a row has eight.
+fn print_each(rt: &impl Print, name: &str, rows: &[u8], place: usize) -> io::Result<()> {
+    print!(rt; "{name}")?;
+    for row in rows.chunks_exact(8) {
+        print_byte(rt, row.get(place).copied().unwrap_or(0))?;
     }
+    Ok(())
 }
 
-// Every eighth byte of a table of so many from this place on: a value of each job, where each name has one byte.
-fn print_column(table: &[u8; TABLE_BYTES], size: usize, first: usize) {
-    let mut at = first;
-    while at < TABLE_BYTES && at < size {
-        print_byte(table, at);
-        at += 8;
-    }
-}
-
-// A name and a byte.
-fn print_one(name: &[u8], table: &[u8; TABLE_BYTES], at: usize) {
-    print(name);
-    print_byte(table, at);
-}
-
-// A name and a value of each job.
-fn print_each(name: &[u8], table: &[u8; TABLE_BYTES], size: usize, first: usize) {
-    print(name);
-    print_column(table, size, first);
-}
-
-// A table of so many bytes.
-fn print_table(table: &[u8; TABLE_BYTES], size: usize) {
-    print_one(b": slots", table, 4);
-    print_one(b" boards", table, 5);
-    print_each(b" starts", table, size, 9);
-    print_each(b" boards", table, size, 10);
-}
-
-// What the check says of a table of so many bytes.
-fn print_check(file: &[u8], table: &[u8; TABLE_BYTES], size: usize) {
-    print(b", check ");
-    print_number(gate::gate_check(file, drafts::front(table, size)));
-}
-
-// The label and the refusal.
-fn print_refused(label: &[u8], number: u32) {
-    print(label);
-    print(b": refused ");
-    if REFUSED <= number {
-        print_number(number - REFUSED);
-    }
+// A table.
+fn print_table(rt: &impl Print, table: &[u8]) -> io::Result<()> {
+    let [_, _, _, _, slots, boards, rows @ ..] = table else {
+        return Ok(());
+    };
+    print!(rt; ": slots {slots} boards {boards}")?;
+    print_each(rt, " starts", rows, 3)?;
+    print_each(rt, " boards", rows, 4)
 }
 
 // The label, and the table with what the check says of it or the refusal.
-fn print_answer(label: &[u8], file: &[u8], table: &[u8; TABLE_BYTES], number: u32) {
-    if number < REFUSED {
-        print(label);
-        print_table(table, number as usize);
-        print_check(file, table, number as usize);
-    } else {
-        print_refused(label, number);
-    }
-}
-
-// Has every byte from this place on this value?
-fn filled(bytes: &[u8], from: usize, value: u8) -> bool {
-    let mut at = from;
-    while at < bytes.len() {
-        if bytes[at] != value {
-            return false;
+fn print_answer(
+    rt: &impl Print,
+    label: &str,
+    file: &[u8],
+    table: &[u8],
+    answer: Result<usize, u32>,
+) -> io::Result<()> {
+    print!(rt; "{label}")?;
+    match answer {
+        Ok(size) => {
+            let table = table.get(..size).unwrap_or(table);
+            print_table(rt, table)?;
+            print!(rt; ", check {}", gate::gate_check(file, table))
         }
-        at += 1;
-    }
-    true
-}
-
-// How many bytes of the table buffer the answer may change.
-fn written(number: u32) -> usize {
-    if number < REFUSED { number as usize } else { 0 }
-}
-
-// The value that the answer leaves in the working buffer.
-fn left(number: u32) -> u8 {
-    if number == REFUSED + 1 { NOISE } else { 0 }
-}
-
-// Are both buffers as the answer leaves them?
-fn print_buffers(work: &[u8], table: &[u8], number: u32) {
-    if filled(work, 0, left(number)) && filled(table, written(number), NOISE) {
-        print(b", buffers ok\n");
-    } else {
-        print(b", buffers WRONG\n");
+        Err(question) => print!(rt; ": refused {question}"),
     }
 }
 
-// The planner's answer.
-fn answer(file: &[u8], work: &mut [u8], table: &mut [u8]) -> u32 {
-    gate::gate_plan(file, work, table)
+// The line of a job file with these buffers, which are full of noise: the answer, and whether both are as it leaves them.
+fn plan_in(
+    rt: &impl Print,
+    label: &str,
+    file: &[u8],
+    work: &mut [u8],
+    table: &mut [u8],
+) -> io::Result<()> {
+    let answer = trials::answer(gate::gate_plan(file, work, table));
+    print_answer(rt, label, file, table, answer)?;
+    let clean = trials::clean(answer, NOISE, work, table);
+    println!(rt; ", buffers {}", if clean { "ok" } else { "WRONG" })
 }
 
 // The line of a job file.
-pub(crate) fn plan(label: &[u8], file: &[u8]) {
+pub(crate) fn plan(rt: &impl Print, label: &str, file: &[u8]) -> io::Result<()> {
     let mut work = noise();
     let mut table = noise_table();
-    let number = answer(file, &mut work, &mut table);
-    print_answer(label, file, &table, number);
-    print_buffers(&work, &table, number);
+    plan_in(rt, label, file, &mut work, &mut table)
+}
+
+// The lines of these files.
+pub(crate) fn plan_each(rt: &impl Print, files: &[(&str, &[u8])]) -> io::Result<()> {
+    for (label, file) in files {
+        plan(rt, label, file)?;
+    }
+    Ok(())
 }
 
 // The line of a job file with a working buffer that is one byte short.
-pub(crate) fn plan_short_work(label: &[u8], file: &[u8]) {
-    let mut work = [NOISE; 65535];
+pub(crate) fn plan_short_work(rt: &impl Print, label: &str, file: &[u8]) -> io::Result<()> {
+    let mut work = [NOISE; WORK_BYTES - 1];
     let mut table = noise_table();
-    let number = answer(file, &mut work, &mut table);
-    print_refused(label, number);
-    print_buffers(&work, &table, number);
+    plan_in(rt, label, file, &mut work, &mut table)
 }
 
 // The line of a job file with a table buffer that is one byte short.
-pub(crate) fn plan_short_table(label: &[u8], file: &[u8]) {
+pub(crate) fn plan_short_table(rt: &impl Print, label: &str, file: &[u8]) -> io::Result<()> {
     let mut work = noise();
     let mut table = [NOISE; TABLE_BYTES - 1];
-    let number = answer(file, &mut work, &mut table);
-    print_refused(label, number);
-    print_buffers(&work, &table, number);
+    plan_in(rt, label, file, &mut work, &mut table)
 }
 
 // The bytes of a job file's table.
-pub(crate) fn plan_bytes(label: &[u8], file: &[u8]) {
+pub(crate) fn plan_bytes(rt: &impl Print, label: &str, file: &[u8]) -> io::Result<()> {
     let mut work = noise();
     let mut table = noise_table();
-    let number = answer(file, &mut work, &mut table);
-    print(label);
-    print(b":");
-    print_bytes(&table, written(number));
-    print(b"\n");
+    let answer = trials::answer(gate::gate_plan(file, &mut work, &mut table));
+    print!(rt; "{label}:")?;
+    for byte in table.iter().take(answer.unwrap_or(0)) {
+        print_byte(rt, *byte)?;
+    }
+    println!(rt)
 }

@@ -7,10 +7,10 @@ mod given;
 mod paper;
 mod sockets;
 
-const STDOUT_FILENO: i32 = 1;
+use std::io;
 
-fn main() {
-    paper::all();
-    given::all();
-    sockets::all();
+fn main(rt: HostRuntime) -> io::Result<()> {
+    paper::all(&rt)?;
+    given::all(&rt)?;
+    sockets::all(&rt)
 }

@@ -1,5 +1,6 @@
 -- Questions 2 to 13 and 21: a refusal, or what the rest is given. Assumes nothing.
-use Rattle.std.specs.Prelude.{◌≡◌, refl, ◌↔◌, Bool, true, set, drop, replicate, leb, eqb}
+use Rattle.std.specs.Prelude.{◌≡◌, refl, ◌↔◌, Bool, true, set, drop, replicate, leb, eqb, zero, Option, Some, None, Result, Ok, Err}
+use Rattle.std.specs.Option.{unwrap_or}
 use Rattle.std.proofs.Math.Path.{sym, ap, ap₂}
 use Rattle.std.proofs.Common.{subst, ◌∙◌, add-mul, one-mul, div-lt_iff_lt-mul, drop_at}
 use Rattle.std.proofs.Math.Bool.{false}
@@ -7,27 +8,30 @@ use mathlib.Core.List.{List, ◌++◌}
 use Rattle.std.proofs.Math.Option.{none}
 use Prim.Native.Nat.{ℕ, suc, ◌+◌, ◌-◌, ◌*◌, ◌/◌, ◌≤◌, ◌<◌}
 use native.Mathlib.Omega.{arith}
+use borrow.Author.Tests.{ne_eqb}
 use Rattle.std.proofs.Math.ListN.{length}
 use Rattle.std.proofs.Math.Seq.{get_or-set_same}
 use Rattle.std.proofs.Math.Dec.{T}
 use Rattle.rules.specs.Sizes.{max_boards, work_size, table_size, max_limit, max_width}
 use Rattle.rules.specs.Basics.{choose, at}
 use Rattle.rules.specs.Fields.{Answer, after}
-use Rattle.rules.specs.Needs.{Need, NeedsIn, Circle, circle_free}
+use Rattle.rules.specs.Needs as rules
+use Rattle.rules.specs.Needs.{Need, NeedsIn, circle_free}
 use Rattle.rules.specs.JobFile.{JobFile, most_boards, read_file}
 use Rattle.rules.specs.Boards.{Runs}
 use Rattle.rules.specs.Windows.{release, tail, width}
 use Rattle.rules.specs.Answers.{plan_table, tabled, plan, cleared}
 use Rattle.laws.specs.Tests.{T_true, T-leb, tests, choose_yes, choose_no}
-use Rattle.laws.specs.Fields.{ask-yes, ask-no, number-refused}
+use Rattle.laws.specs.Fields.{ask-yes, ask-no}
 use Rattle.laws.specs.Numbers.{bytes-all}
 use Rattle.laws.specs.JobFile.{readable}
-use Rattle.laws.proofs.Refusals.{read-got}
 use Rattle.laws.specs.Circles.{circle-free}
 use Rattle.laws.specs.Counting.{most-le}
 use Rattle.dominance.specs.Count.{AtLeast}
 use Rattle.jobfile.specs.declared.Counts.{Counts}
+use Rattle.jobfile.specs.Reading as reading
 use Rattle.jobfile.specs.Reading.{Reads}
+use Rattle.jobfile.specs.Whole.{reads-no, reads-yes}
 use Rattle.jobfile.proofs.Holding.{recounted}
 use Rattle.needrows.specs.Rows.{RowsAre}
 use Rattle.releases.specs.Ordered.{OfNeeds, OrderOf, Peeled}
@@ -40,12 +44,12 @@ use Rattle.shortest.specs.OfFile.{file-bounds, file-room, least-low, wide-iff}
 use Rattle.seats.specs.Order.{order_of, HasPlaces}
 use Rattle.seats.specs.Enter.{Given}
 use Rattle.seats.specs.Filled.{filled-beyond}
-use Rattle.seats.specs.Slots.{SeatedAll}
+use Rattle.seats.specs.Slots.{SeatedIn}
 use Rattle.seats.specs.OfFile.{file-given}
 use Rattle.lengths.specs.Searching.{Search, Found}
 use Rattle.bitmap.specs.Marks.{cleared as zeroed}
-use Rattle.planner.specs.declared.Planned.TheVariants as made
-use Rattle.planner.specs.declared.Planned.{Planned}
+use Rattle.refusals.specs.declared.Refusal.{Refusal}
+use Rattle.refusals.specs.declared.Refusal.TheVariants.{Circle, TooWide, NoPlan}
 use Rattle.planner.specs.Planner.{outcome_of, Answers, first_length, JobsRead, WindowsRead, PlanRead}
 use Rattle.planner.specs.Tabled.{answers-refused, tabled-is}
 
@@ -55,31 +59,39 @@ rounded-up n c s p h = let l : n + (c - 1) < (s + 1) * c = omega (arith, add-mul
 
 -- ---- questions 2 to 10, and 21
 
-module _ {bs : List ℕ} {r : Counts} {o rows : List ℕ} (reads : Reads bs r o rows) where
+module _ {bs o rows : List ℕ} where
   -- the reader refuses
-  pub read-refused : (table : List ℕ) → (r.number ≡ 0 → ⊥) → Answers bs (made.Refused r.number) table table
+  pub read-refused : {q : Refusal} → Reads bs (Err q) o rows → (table : List ℕ) → Answers bs (Err q) table table
   unfolding after
-  read-refused table n =
-      let e = number-refused (read_file bs) r.number reads.number_is n in
-      answers-refused bs r.number table (ap (λ (x : Answer JobFile). after x plan_table) e)
+  read-refused {q} reads table = answers-refused bs q table (ap (λ (x : Answer JobFile). after x plan_table) (reads-no bs q o rows reads))
 
-  -- or offsets and rows hold the file
-  pub jobs-read : r.number ≡ 0 → ((i : ℕ) → at bs i < 256) → JobsRead bs r.jobs r.limit o rows
-  jobs-read z bytes =
-      let w = read-got bs (sym reads.number_is ∙ z) in
-      let f = w.0 in
-      let h = reads.held f w.1 in
-      record {
-        file = f;
-        read = w.1;
-        keeps = readable bs (bytes-all bs bytes) f w.1;
-        held = recounted bs f _ h f.fields f.fields r.limit f.limit f.sockets f.sockets refl h.limit_is refl;
-      }
+  module _ {c : Counts} (reads : Reads bs (Ok c) o rows) where
+    -- or offsets and rows hold the file
+    pub jobs-read : ((i : ℕ) → at bs i < 256) → JobsRead bs c.jobs c.limit o rows
+    jobs-read bytes =
+        let w = reads-yes bs c o rows reads in
+        let f = w.0 in
+        record {
+          file = f;
+          read = w.1;
+          keeps = readable bs (bytes-all bs bytes) f w.1;
+          held = recounted bs f _ w.2 f.fields f.fields c.limit f.limit (reading.given f.sockets) f.sockets refl w.2.limit_is refl;
+        }
 
-  -- and the most boards are those that it says
-  pub boards-read : (j : JobsRead bs r.jobs r.limit o rows) (b : ℕ) → b ≡ choose (eqb r.sockets 0) max_boards r.sockets → b ≡ most_boards j.file
-  unfolding most_boards
-  boards-read j b e = e ∙ ap (λ (k : ℕ). choose (eqb k 0) max_boards k) (reads.held j.file j.read).sockets-is
+    -- eight boards where the file gives none
+    most-given : (b : ℕ) → unwrap_or (reading.given b) max_boards ≡ choose (eqb b 0) max_boards b
+    unfolding choose
+    most-given zero = refl
+    most-given (suc b) = simp (ne_eqb (suc b) 0 (λ e. omega arith))
+
+    -- and the most boards are those that it says
+    pub boards-read : (j : JobsRead bs c.jobs c.limit o rows) (b : ℕ) → b ≡ unwrap_or c.sockets max_boards → b ≡ most_boards j.file
+    unfolding most_boards
+    boards-read j b e =
+        let h = reads.held j.file j.read in
+        let same : h.0 ≡ c = cc in
+        let sockets : c.sockets ≡ reading.given j.file.sockets = rw (← same) h.2.sockets-is in
+        e ∙ ap (λ (k : _). unwrap_or k max_boards) sockets ∙ most-given j.file.sockets
 
 -- ---- question 11
 
@@ -104,10 +116,10 @@ module _ {bs : List ℕ} {n L : ℕ} {o rows : List ℕ} (j : JobsRead bs n L o 
   circle-test ok e = e ∙ ap (λ (k : ℕ). circle_free k j.file.needs) j.held.jobs-is
 
   -- 11 says no
-  pub refused-11 : (ok : Bool) → ok ≡ circle_free n j.file.needs → (table : List ℕ) → ok ≡ false → Answers bs (made.Refused 11) table table
+  pub refused-11 : (ok : Bool) → ok ≡ circle_free n j.file.needs → (table : List ℕ) → ok ≡ false → Answers bs (Err Circle) table table
   unfolding plan_table
   refused-11 ok is table e =
-      answers-refused bs 11 table (goes_on ∙ ask-no (circle_free (length j.file.jobs) j.file.needs) 11 _ (no (sym (circle-test ok is) ∙ e)))
+      answers-refused bs Circle table (goes_on ∙ ask-no (circle_free (length j.file.jobs) j.file.needs) 11 _ (no (sym (circle-test ok is) ∙ e)))
     where
       no : circle_free (length j.file.jobs) j.file.needs ≡ false → T (circle_free (length j.file.jobs) j.file.needs) → ⊥
       no z c = rw z at c
@@ -146,7 +158,7 @@ module _ {bs : List ℕ} {n L b : ℕ} {o rows releases tails : List ℕ} (l : W
   needs-in : NeedsIn n needs
   needs-in = l.jobs.held.needs-in
 
-  no-circle : ¬ (Circle needs)
+  no-circle : ¬ (rules.Circle needs)
   no-circle = (circle-free n needs needs-in).0 l.free
 
   limit-in : (1 ≤ L) × (L ≤ max_limit)
@@ -179,20 +191,20 @@ module _ {bs : List ℕ} {n L b : ℕ} {o rows releases tails : List ℕ} (l : W
   narrow-iff : HasPlaces windows ↔ (width n needs L ≤ max_width)
   narrow-iff = wide-iff n needs L needs-in (order_of windows) (entering-is windows)
 
-  module _ {r : ℕ} {words places : List ℕ} (seated : SeatedAll (file_windows n l.jobs.file.needs L) L r words places) where
-    -- 12 says no
-    pub refused-12 : (table : List ℕ) → r ≡ 0 → Answers bs (made.Refused 12) table table
-    unfolding plan_table
-    refused-12 table z = answers-refused bs 12 table (
-        goes_on l.jobs ∙ ask-yes (circle_free (length f.jobs) needs) 11 _ (subst (λ (k : ℕ). T (circle_free k needs)) l.jobs.held.jobs-is l.free)
-        ∙ ask-no (leb (width (length f.jobs) needs f.limit) max_width) 12 _ wide)
-      where
-        wide : T (leb (width (length f.jobs) needs f.limit) max_width) → ⊥
-        wide c =
-            let e = ap₂ (λ (k d : ℕ). width k needs d) l.jobs.held.jobs-is l.jobs.held.limit_is in
-            omega (arith, z, seated.enough.1 (narrow-iff.1 (omega (arith, e, (T-leb (width (length f.jobs) needs f.limit) max_width).0 c))))
+  -- 12 says no
+  pub refused-12 : (table : List ℕ) → ¬ (HasPlaces windows) → Answers bs (Err TooWide) table table
+  unfolding plan_table
+  refused-12 table out = answers-refused bs TooWide table (
+      goes_on l.jobs ∙ ask-yes (circle_free (length f.jobs) needs) 11 _ (subst (λ (k : ℕ). T (circle_free k needs)) l.jobs.held.jobs-is l.free)
+      ∙ ask-no (leb (width (length f.jobs) needs f.limit) max_width) 12 _ wide)
+    where
+      wide : T (leb (width (length f.jobs) needs f.limit) max_width) → ⊥
+      wide c =
+          let e = ap₂ (λ (k d : ℕ). width k needs d) l.jobs.held.jobs-is l.jobs.held.limit_is in
+          out (narrow-iff.1 (omega (arith, e, (T-leb (width (length f.jobs) needs f.limit) max_width).0 c)))
 
-    module _ (pos : 0 < r) (least : ℕ) (first : least ≡ first_length (least_of releases tails n) n b) where
+  module _ {r : ℕ} {words places : List ℕ} (seated : SeatedIn (file_windows n l.jobs.file.needs L) L r words places) where
+    module _ (least : ℕ) (first : least ≡ first_length (least_of releases tails n) n b) where
       -- a length from the first on leaves each job room
       roomy : (C : ℕ) → least ≤ C → (i : ℕ) → i < n → release n needs i + tail n needs i < C
       unfolding first_length
@@ -217,40 +229,40 @@ module _ {bs : List ℕ} {n L b : ℕ} {o rows releases tails : List ℕ} (l : W
         bounds = unfold file_windows in file-bounds n needs L needs-in;
         count = refl;
         jobs-fit = l.jobs.held.few;
-        rows = filled-beyond cap_at b (omega arith) (omega arith) (omega (arith, seated.few, limit-in)) (seated.filled pos);
-        some = pos;
+        rows = filled-beyond cap_at b (omega arith) (omega arith) (omega (arith, seated.few, limit-in)) seated.filled;
+        some = seated.some;
         more = omega (arith, seated.within, most-le (λ i. suc (release n needs i)) n least (λ i k. omega (arith, roomy least (omega arith) i k)));
         limit-pos = limit-in.0;
         few = limit-in.1;
         room = λ C g k. unfold file_windows in file-room n needs L needs-in C k (roomy C g);
         in-time = λ i h. omega arith;
-        places-are = λ i h. seated.places-are pos i h;
+        places-are = λ i h. seated.places-are i h;
         tails-are = l.tails-are;
-        cap-at = get_or-set_same words cap_at b 0 (omega (arith, (seated.filled pos).rows.small.len));
+        cap-at = get_or-set_same words cap_at b 0 (omega (arith, seated.filled.rows.small.len));
         low = low;
         bitmap-fits = omega arith;
         path-len = e;
       }
 
-    module _ (pos : 0 < r) {slots : ℕ} {words' path : List ℕ} (found : Found (file_windows n l.jobs.file.needs L) b L slots words' path) where
+    module _ {s : Option ℕ} {words' path : List ℕ} (found : Found (file_windows n l.jobs.file.needs L) b L s words' path) where
       narrow : width n needs L ≤ max_width
-      narrow = narrow-iff.0 (seated.enough.0 pos)
+      narrow = narrow-iff.0 seated.enough
 
       -- 13 says no
-      pub refused-13 : (table : List ℕ) → slots ≡ 0 → Answers bs (made.Refused 13) table table
+      pub refused-13 : (table : List ℕ) → s ≡ None → Answers bs (Err NoPlan) table table
       unfolding tabled file_windows
       refused-13 table z =
-          answers-refused bs 13 table (tabled-is l.jobs no-circle narrow none (rw (← l.boards-are) (found.no-list z)))
+          answers-refused bs NoPlan table (tabled-is l.jobs no-circle narrow none (rw (← l.boards-are) (found.no-list z)))
 
       -- or there is a plan
-      pub plan-read : (slots ≡ 0 → ⊥) → PlanRead bs n o words' path slots
-      plan-read z = record {
+      pub plan-read : (slots : ℕ) → s ≡ Some slots → PlanRead bs n o words' path slots
+      plan-read slots e = record {
         limit = L;
         rows = rows;
         jobs = l.jobs;
         free = l.free;
         narrow = narrow;
-        found = rw (← l.boards-are) (found.a-plan (omega arith));
+        found = rw (← l.boards-are) (found.a-plan slots e).1;
       }
 
 -- ---- question 1, and the working buffer afterwards
@@ -266,7 +278,7 @@ module _ (file work table : List ℕ) where
   short-table h = sym (choose_no _ _ _ (λ c. let d : (work_size ≤ length work) × (table_size ≤ length table) = simp tests at c in omega (arith, d)))
 
   -- both are full: what the rest answers, with the working buffer cleared, whatever its front holds
-  pub full-buffers : (r : Planned) (part work' table' : List ℕ) → work_size ≤ length work → table_size ≤ length table → length part ≡ work_size
+  pub full-buffers : (r : Result ℕ Refusal) (part work' table' : List ℕ) → work_size ≤ length work → table_size ≤ length table → length part ≡ work_size
       → work' ≡ zeroed work_size (part ++ drop work_size work) → Answers file r table table' → outcome_of r work' table' ≡ plan file work table
   unfolding plan Answers cleared zeroed
   full-buffers r part work' table' hw ht e z a =

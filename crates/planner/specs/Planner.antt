@@ -1,5 +1,5 @@
 -- What the planner gives, and what its parts are given. Assumes nothing.
-use Rattle.std.specs.Prelude.{◌≡◌, List, ℕ, ◌+◌, ◌-◌, ◌/◌, ◌≤◌, ◌<◌, max, T}
+use Rattle.std.specs.Prelude.{◌≡◌, List, ℕ, ◌+◌, ◌-◌, ◌/◌, ◌≤◌, ◌<◌, max, T, Result, Ok, Err}
 use Rattle.rules.specs.Sizes.{max_width}
 use Rattle.rules.specs.Basics.{at}
 use Rattle.rules.specs.Fields.{got, after}
@@ -8,19 +8,19 @@ use Rattle.rules.specs.JobFile.{JobFile, most_boards, read_file}
 use Rattle.rules.specs.Windows.{release, tail, width}
 use Rattle.rules.specs.Answers.{plan_table, Outcome, cleared, written}
 use Rattle.laws.specs.JobFile.{Readable}
-use Rattle.jobfile.specs.Reading.{Held}
+use Rattle.jobfile.specs.Reading.{given, Held}
 use Rattle.places.specs.OfFile.{file_windows}
 use Rattle.lengths.specs.Searching.{PlanFound}
-use Rattle.planner.specs.declared.Planned.{Planned}
-use Rattle.planner.specs.declared.Planned.TheVariants.{Table, Refused}
+use Rattle.refusals.specs.declared.Refusal.{Refusal}
+use Rattle.refusals.specs.Refusals.{number}
 
 -- number, length and both buffers: what document 01 says of an answer
-abbrev pub outcome_of : Planned → List ℕ → List ℕ → Outcome
-outcome_of (Table n) work table = record { number = 0; size = n; table = table; work = work }
-outcome_of (Refused q) work table = record { number = q; size = 0; table = table; work = work }
+abbrev pub outcome_of : Result ℕ Refusal → List ℕ → List ℕ → Outcome
+outcome_of (Ok n) work table = record { number = 0; size = n; table = table; work = work }
+outcome_of (Err q) work table = record { number = number q; size = 0; table = table; work = work }
 
 -- the answer for a file with full buffers: the table buffer before and after; the working buffer is cleared afterwards
-unfoldable pub Answers : List ℕ → Planned → List ℕ → List ℕ → Type 0
+unfoldable pub Answers : List ℕ → Result ℕ Refusal → List ℕ → List ℕ → Type 0
 Answers bs r table table' = (work : List ℕ) → outcome_of r (cleared work) table' ≡ written (after (read_file bs) plan_table) work table
 
 -- the first makespan that the search tries: at least as many slots as the windows leave, and as n jobs take
@@ -34,7 +34,7 @@ pub record JobsRead (bs : List ℕ) (n L : ℕ) (offsets rows : List ℕ) : Type
   pub file : JobFile
   pub read : read_file bs ≡ got file
   pub keeps : Readable file
-  pub held : Held bs file (record { fields = file.fields; limit = L; sockets = file.sockets; jobs = n; offsets = offsets; rows = rows })
+  pub held : Held bs file (record { fields = file.fields; limit = L; sockets = given file.sockets; jobs = n; offsets = offsets; rows = rows })
 
 -- and it has no circle; b is the most boards, and the arrays have the releases and the tails
 pub record WindowsRead (bs : List ℕ) (n L b : ℕ) (offsets rows releases tails : List ℕ) : Type 0 where

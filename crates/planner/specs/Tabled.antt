@@ -1,5 +1,5 @@
 -- From the plan that was found to the table of the best start list. Assumes nothing.
-use Rattle.std.specs.Prelude.{◌≡◌, refl, ℕ, ◌≤◌, ◌<◌, take, replicate}
+use Rattle.std.specs.Prelude.{◌≡◌, refl, ℕ, ◌≤◌, ◌<◌, take, replicate, Ok, Err}
 use Rattle.std.proofs.Math.Path.{sym, ap}
 use Rattle.std.proofs.Common.{ap₂, ◌∙◌, arith, length-take, ext_get_or, get_or-take}
 use mathlib.Core.List.{List, ◌++◌}
@@ -32,18 +32,19 @@ use Rattle.seats.specs.Order.{seats_by}
 use Rattle.lengths.specs.Searching.{PlacesIn, list_found}
 use Rattle.slotboards.specs.Placing.{Placeable, Boarded}
 use Rattle.writer.specs.Written.{row_with, table_with, JobFields}
-use Rattle.planner.specs.declared.Planned.TheVariants as made
+use Rattle.refusals.specs.declared.Refusal.{Refusal}
+use Rattle.refusals.specs.Refusals.{number}
 use Rattle.planner.specs.Planner.{Answers, JobsRead, PlanRead}
 use Rattle.planner.specs.Seated.{placeable}
 
 -- ---- answers
 
-pub answers-refused : (bs : List ℕ) (q : ℕ) (table : List ℕ) → after (read_file bs) plan_table ≡ refused q → Answers bs (made.Refused q) table table
+pub answers-refused : (bs : List ℕ) (q : Refusal) (table : List ℕ) → after (read_file bs) plan_table ≡ refused (number q) → Answers bs (Err q) table table
 unfolding Answers written
 answers-refused bs q table e = λ work. rw e refl
 
 pub answers-table : (bs : List ℕ) (t : Table) (n : ℕ) (table table' : List ℕ) → after (read_file bs) plan_table ≡ got t → n ≡ length (encode t)
-    → table' ≡ encode t ++ drop n table → Answers bs (made.Table n) table table'
+    → table' ≡ encode t ++ drop n table → Answers bs (Ok n) table table'
 unfolding Answers written
 answers-table bs t n table table' e k h = λ work. rw (e, h, k) refl
 
@@ -187,7 +188,7 @@ module _ {bs : List ℕ} {n : ℕ} {o words path : List ℕ} {count : ℕ} (p : 
 
       -- the answer with the table that is written
       pub table-written : (k : ℕ) (table table' : List ℕ) → k ≡ length (encode (table_with bs o starts out n count most))
-          → table' ≡ encode (table_with bs o starts out n count most) ++ drop k table → Answers bs (made.Table k) table table'
+          → table' ≡ encode (table_with bs o starts out n count most) ++ drop k table → Answers bs (Ok k) table table'
       unfolding tabled
       table-written k table table' size_is bytes-are =
           answers-table bs (table_of f list_of) k table table' (tabled-is p.jobs no-circle p.narrow (some list_of) is-best)

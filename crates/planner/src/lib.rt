@@ -4,22 +4,16 @@
 // the search.
 #![tactic(auto)]
 
-ghost use Rattle.std.specs.Prelude.{◌≡◌, ◌≤◌, ◌<◌, length};
+ghost use Rattle.std.specs.Prelude.{◌≡◌, ◌≤◌, ◌<◌, length, Ok};
 ghost use Rattle.rules.specs.Sizes.{max_jobs, work_size, table_size};
 ghost use Rattle.rules.specs.Answers.{plan};
 ghost use Rattle.planner.specs.Planner.{outcome_of, Answers, first_length, WindowsRead, PlanRead};
 
 use layout::{CAP, TABLES};
+use refusals::Refusal;
 use sizes::{MAX_JOBS, MAX_SLOTS, TABLE_BYTES, WORK_BYTES};
 
-// A table of so many bytes, or the number of the question that said no.
-#[derive(Clone, Copy)]
-pub enum Planned {
-    Table(usize),
-    Refused(u8),
-}
-
-// The table of the plan that was found: starts, boards, and both written.
+// The table of the plan that was found: starts, boards, and both written. Gives the table's size.
 fn write_plan(
     file: &[u8],
     offsets: &[u16; MAX_JOBS],
@@ -28,15 +22,16 @@ fn write_plan(
     jobs: usize,
     slots: usize,
     table: &mut [u8],
-) -> Planned
+) -> usize
     requires { (table_size ≤ length table.old) × PlanRead file.now jobs offsets.now tables.now path.now slots }
-    ensures { Answers file.now result table.old table.new }
+    ensures { Answers file.now (Ok result) table.old table.new }
 {
     let mut starts = [0; MAX_JOBS];
     lengths::starts_of(tables, path, slots, &mut starts);
     let mut boards = [0; MAX_JOBS];
     let count = slotboards::place(tables, path, jobs, slots, &mut boards);
-    let size = writer::write_table(
+    // No `try_from`: at most 64 slots and 8 boards (the plan), so its error could not come.
+    writer::write_table(
         file,
         offsets,
         &starts,
@@ -45,8 +40,7 @@ fn write_plan(
         slots as u8,
         count as u8,
         table,
-    );
-    Planned::Table(size)
+    )
 }
 
 // The first length that the search tries: what releases and tails leave, or as many slots as so many jobs take at `cap` a slot.
@@ -54,12 +48,7 @@ fn first_length(least: usize, jobs: usize, cap: u8) -> usize
     requires { (0 < cap) × (jobs ≤ max_jobs) }
     ensures { result ≡ first_length least jobs cap }
 {
-    let most = cap as usize;
-    let slots = (jobs + (most - 1)) / most;
-    if least < slots {
-        return slots;
-    }
-    least
+    least.max(jobs.div_ceil(usize::from(cap)))
 }
 
 // Questions 12 and 13; then the table. No slot gets more jobs than there are boards.
@@ -73,18 +62,16 @@ fn plan_windows(
     boards: u8,
     work: &mut [u8],
     table: &mut [u8],
-) -> Planned
+) -> Result<usize, Refusal>
     requires { (work_size ≤ length work.old) × (table_size ≤ length table.old)
         × WindowsRead file.now jobs limit boards offsets.now work.old release.now tail.now }
     ensures { Answers file.now result table.old table.new }
 {
     let mut places = [0; MAX_JOBS];
     let mut tables = [0; TABLES];
-    let filled = seats::seat_all(work, jobs, release, tail, limit, &mut places, &mut tables);
-    if filled == 0 {
-        return Planned::Refused(12);
-    }
-    tables[CAP] = boards as u16;
+    let seated = seats::seat_all(work, jobs, release, tail, limit, &mut places, &mut tables);
+    let filled = seated.ok_or(Refusal::TooWide)?;
+    tables[CAP] = u16::from(boards);
     let least = first_length(releases::least(release, tail, jobs), jobs, boards);
     let mut path = [0; MAX_SLOTS];
     let slots = lengths::search(
@@ -97,28 +84,22 @@ fn plan_windows(
         tail,
         work,
         &mut path,
-    );
-    if slots == 0 {
-        return Planned::Refused(13);
-    }
-    write_plan(file, offsets, &tables, &path, jobs, slots, table)
+    )
+    .ok_or(Refusal::NoPlan)?;
+    Ok(write_plan(file, offsets, &tables, &path, jobs, slots, table))
 }
 
 // Questions 2 to 11 and 21, with full buffers; then the rest.
-fn plan_file(file: &[u8], work: &mut [u8], table: &mut [u8]) -> Planned
+fn plan_file(file: &[u8], work: &mut [u8], table: &mut [u8]) -> Result<usize, Refusal>
     requires { (work_size ≤ length work.old) × (table_size ≤ length table.old) }
     ensures { Answers file.now result table.old table.new }
 {
     let mut offsets = [0; MAX_JOBS];
-    let f = jobfile::read_file(file, &mut offsets, work);
-    let number = f.number;
-    if number != 0 {
-        return Planned::Refused(number);
-    }
+    let f = jobfile::read_file(file, &mut offsets, work)?;
     let mut order = [0; MAX_JOBS];
     let mut release = [0; MAX_JOBS];
     if !releases::peel(work, f.jobs, &mut order, &mut release) {
-        return Planned::Refused(11);
+        return Err(Refusal::Circle);
     }
     let mut tail = [0; MAX_JOBS];
     releases::tails(work, f.jobs, &order, &mut tail);
@@ -137,14 +118,14 @@ fn plan_file(file: &[u8], work: &mut [u8], table: &mut [u8]) -> Planned
 
 // The planner. After every answer but refusal 1 the first 65,536 bytes of the working buffer are zero; the table buffer is changed only
 // by a table, and only where the table stands.
-pub fn plan(file: &[u8], work: &mut [u8], table: &mut [u8]) -> Planned
+pub fn plan(file: &[u8], work: &mut [u8], table: &mut [u8]) -> Result<usize, Refusal>
     ensures { outcome_of result work.new table.new ≡ plan file.now work.old table.old }
 {
     if work.len() < WORK_BYTES {
-        return Planned::Refused(1);
+        return Err(Refusal::ShortBuffer);
     }
     if table.len() < TABLE_BYTES {
-        return Planned::Refused(1);
+        return Err(Refusal::ShortBuffer);
     }
     let answer = plan_file(file, &mut work[..WORK_BYTES], table);
     bitmap::clear(work, WORK_BYTES);

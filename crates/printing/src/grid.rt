@@ -1,12 +1,13 @@
 // A table for people: a line for each slot, a column for each board, job number and name in a cell, a dot where the board is idle.
-ghost use Rattle.std.specs.Prelude.{◌≡◌, ◌-◌, ◌≤◌};
+ghost use Rattle.std.specs.Prelude.{◌≤◌};
 
-use crate::STDOUT_FILENO;
-use fields::wide;
-use gate::Found;
+use streams::STDOUT_FILENO;
 
-// A column has four bytes for a number, a blank, and twelve bytes for a name.
-const BLANKS: [u8; 13] = [32, 32, 32, 32, 32, 32, 32, 32, 32, 32, 32, 32, 32];
+// A name has up to so many bytes in its column.
+const NAME_BYTES: usize = 12;
+
+// A column has four bytes for a number, a blank, and the bytes for a name.
+const BLANKS: [u8; 13] = [b' '; 13];
 
 // So many blanks.
 fn print_blanks(count: usize)
@@ -28,36 +29,26 @@ fn print_right(n: usize) {
     io::print_decimal(STDOUT_FILENO, n as u64);
 }
 
-// How many blanks follow a name of so many bytes, up to the next column.
-fn behind(length: usize) -> usize
-    ensures { result ≡ 12 - length }
-{
-    if length < 12 { 12 - length } else { 0 }
-}
-
 // The cell of a slot and board; gives how many blanks follow it, up to the next column.
 fn print_cell(table: &[u8], slot: usize, board: usize) -> usize
     ensures { result ≤ 13 }
 {
-    let f = gate::lookup(table, slot, board);
-    let Found::Job(job) = f else {
+    let Ok(Some(job)) = gate::lookup(table, slot, board) else {
         io::write_all(STDOUT_FILENO, b"   .");
-        return 13;
+        return NAME_BYTES + 1;
     };
     let name = gate::name(table, slot, board);
     print_right(job);
     print_blanks(1);
     io::write_all(STDOUT_FILENO, name);
-    behind(name.len())
+    NAME_BYTES.saturating_sub(name.len())
 }
 
 // The line of a slot.
 fn print_slot(table: &[u8], slot: usize, boards: usize) {
     print_right(slot);
     let mut blanks = 0;
-    let mut board = 0;
-    while board < boards {
-        board += 1;
+    for board in 1..=boards {
         print_blanks(blanks);
         blanks = print_cell(table, slot, board);
     }
@@ -68,9 +59,7 @@ fn print_slot(table: &[u8], slot: usize, boards: usize) {
 fn print_boards(boards: usize) {
     io::write_all(STDOUT_FILENO, b"slot");
     let mut blanks = 5;
-    let mut board = 0;
-    while board < boards {
-        board += 1;
+    for board in 1..=boards {
         print_blanks(blanks);
         io::write_all(STDOUT_FILENO, b"board ");
         io::print_decimal(STDOUT_FILENO, board as u64);
@@ -84,12 +73,10 @@ pub(crate) fn print(table: &[u8]) {
     if table.len() < 6 {
         return;
     }
-    let slots = wide(table[4]);
-    let boards = wide(table[5]);
+    let slots = usize::from(table[4]);
+    let boards = usize::from(table[5]);
     print_boards(boards);
-    let mut slot = 0;
-    while slot < slots {
+    for slot in 0..slots {
         print_slot(table, slot, boards);
-        slot += 1;
     }
 }

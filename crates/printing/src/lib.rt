@@ -3,6 +3,8 @@
 //
 // What is printed is tested, each program against its file `stdout`, and not proved: a contract cannot speak of what goes out. What a function
 // gives back is proved.
+//
+// Lines go out by crate `io`, on a file descriptor: the library's printing takes a handle, which would go through every function here.
 #![tactic(auto)]
 
 mod grid;
@@ -11,89 +13,86 @@ mod numbers;
 mod pairs;
 mod report;
 
-ghost use Rattle.std.specs.Prelude.{◌≡◌};
+ghost use Rattle.std.specs.Prelude.{◌≡◌, ◌*◌, Some, take};
+ghost use Rattle.std.specs.Result.{result_err};
 ghost use Rattle.rules.specs.Fields.{number_of};
 ghost use Rattle.rules.specs.Answers.{lookup as Answers·lookup};
-ghost use Rattle.gate.specs.Numbers.{planned_number, verdict_number, refusal_number};
-ghost use Rattle.implied.specs.Listing.{listed_number};
+ghost use Rattle.gate.specs.Numbers.{said_number};
 ghost use Rattle.small.specs.Lines.{all_agreed};
 
-use gate::{Found, Planned, Verdict};
-use implied::Listed;
+use gate::Refusal;
+use std::fmt::{Display, InlineText};
+use streams::STDOUT_FILENO;
 
-const STDOUT_FILENO: i32 = 1;
-
-const STDERR_FILENO: i32 = 2;
-
-// The line of a refusal; gives its number.
-fn print_refused(number: u8) -> u8
-    ensures { result ≡ number }
-{
-    io::write_all(STDOUT_FILENO, b"refused ");
-    io::print_decimal(STDOUT_FILENO, number as u64);
-    io::write_all(STDOUT_FILENO, b"\n");
-    number
+// A text of at most 16 bytes, on standard output.
+fn print_short<D: Display + Drop>(value: D) {
+    let text = InlineText::<16>::of(value);
+    io::write_all(STDOUT_FILENO, text.as_str().as_bytes());
 }
 
-// Prints a planner's answer, with the table that it has left; gives its number.
-pub fn print_planned(p: Planned, table: &[u8]) -> u8
-    ensures { result ≡ planned_number p }
+// The first so many pairs of a list, or all entries where there are fewer.
+fn front<T>(list: &[T], pairs: usize) -> &[T]
+    ensures { result.now ≡ take (2 * pairs) list.now }
+{
+    &list[..pairs.saturating_mul(2).min(list.len())]
+}
+
+// The line of a refusal; gives the refusal.
+fn print_refused(refusal: Refusal) -> Option<Refusal>
+    ensures { result ≡ Some refusal }
+{
+    print_short(refusal);
+    io::write_all(STDOUT_FILENO, b"\n");
+    Some(refusal)
+}
+
+// Prints a planner's answer, with the table that it has left; gives the refusal.
+pub fn print_planned(p: Result<usize, Refusal>, table: &[u8]) -> Option<Refusal>
+    ensures { result ≡ result_err p }
 {
     match p {
-        Planned::Table(_) => {
+        Ok(_) => {
             report::print_table(table);
-            0
+            None
         }
-        Planned::Refused(number) => print_refused(number),
+        Err(refusal) => print_refused(refusal),
     }
 }
 
-// The line of a verdict; gives its number.
-pub fn print_verdict(v: Verdict) -> u8
-    ensures { result ≡ verdict_number v }
+// The line of a verdict; gives the refusal.
+pub fn print_verdict(v: Result<(), Refusal>) -> Option<Refusal>
+    ensures { result ≡ result_err v }
 {
     match v {
-        Verdict::Passes => {
+        Ok(()) => {
             io::write_all(STDOUT_FILENO, b"passes\n");
-            0
+            None
         }
-        Verdict::Refused(number) => print_refused(number),
+        Err(refusal) => print_refused(refusal),
     }
 }
 
-// The number of a refusal of the lookup; 0 where it is none.
-fn lookup_refusal(f: Found) -> u8
-    ensures { result ≡ refusal_number f }
+// Prints a table for people, or that the lookup refuses it; gives the refusal.
+pub fn show_bytes(table: &[u8]) -> Option<Refusal>
+    ensures { said_number result ≡ number_of (Answers·lookup table.now 0 0) }
 {
-    match f {
-        Found::Job(_) => 0,
-        Found::Idle => 0,
-        Found::Refused(number) => number,
-    }
-}
-
-// Prints a table for people, or that the lookup refuses it; gives the number.
-pub fn show_bytes(table: &[u8]) -> u8
-    ensures { result ≡ number_of (Answers·lookup table.now 0 0) }
-{
-    let number = lookup_refusal(gate::lookup(table, 0, 0));
-    if number != 0 {
-        return print_refused(number);
+    if let Err(refusal) = gate::lookup(table, 0, 0) {
+        return print_refused(refusal);
     }
     grid::print(table);
-    0
+    None
 }
 
-// Prints the pairs that are listed, from the front of the list, or that the job file is refused; gives the number.
-pub fn print_listed(l: Listed, list: &[u16]) -> u8
-    ensures { result ≡ listed_number l }
+// Prints the pairs that are listed, from the front of the list, or that the job file is refused; gives the refusal.
+pub fn print_listed(l: Result<usize, Refusal>, list: &[u16]) -> Option<Refusal>
+    ensures { result ≡ result_err l }
 {
     match l {
-        Listed::Pairs(count) => {
-            pairs::print(pairs::first(list, count));
-            0
+        Ok(count) => {
+            pairs::print(front(list, count));
+            None
         }
-        Listed::Refused(number) => print_refused(number),
+        Err(refusal) => print_refused(refusal),
     }
 }
 
@@ -104,16 +103,16 @@ pub fn print_gates(list: &[u16]) -> bool
     lines::print(list)
 }
 
-// Prints the state number of each slot of the table that a planner's answer has left, or that the job file is refused; gives its number.
-pub fn print_states(p: Planned, table: &[u8], states: &[u8]) -> u8
-    ensures { result ≡ planned_number p }
+// Prints the state number of each slot of the table that a planner's answer has left, or that the job file is refused; gives the refusal.
+pub fn print_states(p: Result<usize, Refusal>, table: &[u8], states: &[u8]) -> Option<Refusal>
+    ensures { result ≡ result_err p }
 {
     match p {
-        Planned::Table(_) => {
-            numbers::print(numbers::first(states, numbers::slots_in(table)));
-            0
+        Ok(_) => {
+            numbers::print(front(states, numbers::slots_in(table)));
+            None
         }
-        Planned::Refused(number) => print_refused(number),
+        Err(refusal) => print_refused(refusal),
     }
 }
 

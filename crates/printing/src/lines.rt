@@ -2,13 +2,13 @@
 ghost use Rattle.std.specs.Prelude.{◌≡◌, not, eqb};
 ghost use Rattle.small.specs.Lines.{all_agreed};
 
-use crate::{STDERR_FILENO, STDOUT_FILENO};
+use streams::{STDERR_FILENO, STDOUT_FILENO};
 
 // Two numbers, with a blank between them.
 fn print_two(to: i32, jobs: u16, number: u16) {
-    io::print_decimal(to, jobs as u64);
+    io::print_decimal(to, u64::from(jobs));
     io::write_all(to, b" ");
-    io::print_decimal(to, number as u64);
+    io::print_decimal(to, u64::from(number));
 }
 
 // A line; where it has no slots, the planner gives something else: that is said on standard error, and no line is printed. Says whether one was.
@@ -23,7 +23,7 @@ fn print_line(jobs: u16, number: u16, slots: u16) -> bool
     }
     print_two(STDOUT_FILENO, jobs, number);
     io::write_all(STDOUT_FILENO, b" ");
-    io::print_decimal(STDOUT_FILENO, slots as u64);
+    io::print_decimal(STDOUT_FILENO, u64::from(slots));
     io::write_all(STDOUT_FILENO, b"\n");
     true
 }
@@ -32,13 +32,9 @@ fn print_line(jobs: u16, number: u16, slots: u16) -> bool
 pub(crate) fn print(list: &[u16]) -> bool
     ensures { result ≡ all_agreed list.now }
 {
-    let many = list.len() / 3;
     let mut all = true;
-    let mut next = 0;
-    while next < many {
-        let at = 3 * next;
-        next += 1;
-        if !print_line(list[at], list[at + 1], list[at + 2]) {
+    for line in list.chunks_exact(3) {
+        if !print_line(line[0], line[1], line[2]) {
             all = false;
         }
     }

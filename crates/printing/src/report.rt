@@ -1,6 +1,7 @@
 // A planned table as text: a line with slots and boards, then a line for each job with its number, name, start, board and centimetres.
-use crate::STDOUT_FILENO;
-use fields::{is_whole, value_at, wide, word_at};
+use crate::print_short;
+use fields::{is_whole, value_at, word_at};
+use streams::STDOUT_FILENO;
 
 // These bytes.
 fn print(text: &[u8]) {
@@ -12,16 +13,6 @@ fn print_number(n: usize) {
     io::print_decimal(STDOUT_FILENO, n as u64);
 }
 
-// A level in two's complement, in decimal.
-fn print_level(level: u16) {
-    if level < 32768 {
-        io::print_decimal(STDOUT_FILENO, level as u64);
-        return;
-    }
-    print(b"-");
-    io::print_decimal(STDOUT_FILENO, 65536 - (level as u64));
-}
-
 // The line of a job, by the value of its row: start, board, level and name.
 fn print_job(number: usize, row: &[u8]) {
     if row.len() < 4 {
@@ -31,11 +22,11 @@ fn print_job(number: usize, row: &[u8]) {
     print(b" ");
     print(&row[4..]);
     print(b" ");
-    print_number(wide(row[0]));
+    print_number(usize::from(row[0]));
     print(b" ");
-    print_number(wide(row[1]));
+    print_number(usize::from(row[1]));
     print(b" ");
-    print_level(word_at(row, 2));
+    print_short(word_at(row, 2).cast_signed());
     print(b"\n");
 }
 
@@ -43,6 +34,7 @@ fn print_job(number: usize, row: &[u8]) {
 fn print_jobs(table: &[u8]) {
     let mut at = 6;
     let mut number = 0;
+    // No `for`: each row says where the next begins.
     while at < table.len() {
         if !is_whole(table, at) {
             return;
@@ -60,9 +52,9 @@ pub(crate) fn print_table(table: &[u8]) {
         return;
     }
     print(b"slots ");
-    print_number(wide(table[4]));
+    print_number(usize::from(table[4]));
     print(b" boards ");
-    print_number(wide(table[5]));
+    print_number(usize::from(table[5]));
     print(b"\n");
     print_jobs(table);
 }

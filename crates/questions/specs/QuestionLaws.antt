@@ -1,9 +1,9 @@
 -- The functions for questions 15 to 18 answer the rules' questions. Assumes nothing.
-use Rattle.std.specs.Prelude.{◌≡◌, Bool, true, false, not, ◌&&◌, ◌||◌, ◌⊎◌, ℕ, suc, ◌+◌, ◌*◌, ◌≤◌, ◌<◌, length, set, drop, replicate, T, leb, eqb, ℤ}
+use Rattle.std.specs.Prelude.{◌≡◌, Bool, true, false, not, ◌&&◌, ◌||◌, ◌⊎◌, ℕ, suc, ◌+◌, ◌≤◌, ◌<◌, length, set, drop, replicate, T, leb, eqb, ℤ}
 use Rattle.std.proofs.Math.Path.{refl, ap}
 use Rattle.std.proofs.Common.{sym, ◌∙◌, inl, inr, ⊎_elim, arith, length-set, get_or-set_same, get_or-set_other}
-use Rattle.std.proofs.Math.Bool.{or-false, and_assoc}
-use mathlib.Core.List.{List, [], ◌∷◌, ◌++◌, map, Memᴰ}
+use Rattle.std.proofs.Math.Bool.{or-false}
+use mathlib.Core.List.{List, [], ◌∷◌, Memᴰ}
 use Rattle.std.proofs.Math.Decide.{dec_lt, ℕ_discrete}
 use borrow.Author.Tests.{eq-eqb, ne_eqb, le-leb, lt-leb}
 use Rattle.std.proofs.lemmas.List.{length-replicate, get_or-replicate}
@@ -18,13 +18,12 @@ use Rattle.laws.specs.Tests.{tests, bool-ext, T-eqb, T-or, T-any}
 use Rattle.laws.specs.Counting.{range-below}
 use Rattle.laws.specs.Numbers.{split-word, unsigned_signed, signed-unsigned, T-eqℤ}
 use Rattle.laws.specs.Rounding.{centimetres-in}
-use Rattle.jobset.specs.declared.Set.{Set}
-use Rattle.jobset.specs.Sets.{member, set_at, with, members}
+use Rattle.jobset.specs.Sets.{member, set_at, with}
 use Rattle.jobset.specs.Membership.{member-empty, member-with}
-use Rattle.needrows.specs.Rows.{word_bits, rows_size, words_for, word_at, takers_behind, takers_of, RowsAre}
-use Rattle.needrows.specs.Takers.{words-turn, words-end, takers-are}
+use Rattle.needrows.specs.Rows.{rows_size, takers_of, RowsAre}
+use Rattle.needrows.specs.Takers.{takers-are}
 use Rattle.levels.specs.Levels.{rounded}
-use Rattle.questions.specs.Questions.{labelled_by, sized_in, cell_taken, shared, late_enough, word_kept, kept_behind, RowsIn, rows_kept}
+use Rattle.questions.specs.Questions.{labelled_by, sized_in, cell_taken, shared, late_enough, row_kept, RowsIn, rows_kept}
 
 -- ---- 15
 
@@ -142,53 +141,36 @@ more-taken t b i taken h l k = record { size = length-set taken (at t i) _ ∙ k
 
 -- ---- 18
 
--- a test over a list in two parts, and over a list of sums
-all_append : (p : ℕ → Bool) (xs ys : List ℕ) → all p (xs ++ ys) ≡ (all p xs && all p ys)
-unfolding all
-all_append p [] ys = refl
-all_append p (x ∷ xs) ys = rw (all_append p xs ys) (sym (and_assoc (p x) (all p xs) (all p ys)))
+-- before the takers in `rest` are asked: they decide, and they are among n jobs
+pub record KeptSoFar (t b : List ℕ) (g n : ℕ) (whole : Bool) (rest : List ℕ) : Type 0 where
+  pub same : all (late_enough t b g) rest ≡ whole
+  pub among : (k : ℕ) → Memᴰ k rest → k < n
 
-all_map : (p f : ℕ → ℕ → Bool) (first : ℕ) (xs : List ℕ) → ((j : ℕ) → p first (first + j) ≡ f first j) → all (p first) (map (first +◌) xs) ≡ all (f first) xs
-unfolding all
-all_map p f first [] e = refl
-all_map p f first (x ∷ xs) e = rw (e x, all_map p f first xs e) refl
+module _ {t b : List ℕ} {g n : ℕ} {whole : Bool} where
+  -- all are asked
+  pub kept_end : {rest : List ℕ} → rest ≡ [] → KeptSoFar t b g n whole rest → true ≡ whole
+  unfolding all
+  kept_end e s = rw e at s.same
 
--- where the first of two tests fails both fail together, and where it passes the second decides
-pub and-first-no : {whole a : Bool} (rest : Bool) → whole ≡ (a && rest) → a ≡ false → false ≡ whole
-and-first-no rest e n = sym (e ∙ ap (λ (x : Bool). x && rest) n)
+  module _ {rest next : List ℕ} {k : ℕ} (e : rest ≡ k ∷ next) (s : KeptSoFar t b g n whole rest) where
+    pub taker-in : k < n
+    taker-in = s.among k (rw e (Memᴰ.head refl))
 
-pub and-first-yes : {whole a rest : Bool} → whole ≡ (a && rest) → a ≡ true → rest ≡ whole
-and-first-yes {rest = rest} e y = sym (e ∙ ap (λ (x : Bool). x && rest) y)
+    decides : (late_enough t b g k && all (late_enough t b g) next) ≡ whole
+    unfolding all
+    decides = rw e at s.same
 
--- one taker more, and none
-pub word_first : (t b : List ℕ) (g first : ℕ) (S R : Set) (i : ℕ) → members S ≡ i ∷ members R → word_kept t b g first S
-    ≡ (late_enough t b g (first + i) && word_kept t b g first R)
-unfolding word_kept all
-word_first t b g first S R i e = rw e refl
+    -- one is not late enough, and one is
+    pub kept-no : late_enough t b g k ≡ false → false ≡ whole
+    kept-no n = rw n at decides
 
-pub word_none : (t b : List ℕ) (g first : ℕ) (S : Set) → members S ≡ [] → word_kept t b g first S ≡ true
-unfolding word_kept all
-word_none t b g first S e = rw e refl
-
-module _ (rows t b : List ℕ) (g w : ℕ) where
-  -- one word more
-  pub word_next : w < words_for (length t) → kept_behind rows t b g w ≡ (word_kept t b g (word_bits * w) (word_at rows g w) && kept_behind rows t b g (w + 1))
-  unfolding kept_behind word_kept
-  word_next h =
-      ap (all (late_enough t b g)) (words-turn rows (length t) g w h)
-      ∙ all_append (late_enough t b g) (map (word_bits * w +◌) (members (word_at rows g w))) (takers_behind rows (length t) g (w + 1))
-      ∙ ap (λ (x : Bool). x && all (late_enough t b g) (takers_behind rows (length t) g (w + 1)))
-      (all_map (λ first k. late_enough t b g k) (λ first j. late_enough t b g (first + j)) (word_bits * w) (members (word_at rows g w)) (λ j. refl))
-
-  -- no word is left
-  pub word-last : words_for (length t) ≤ w → kept_behind rows t b g w ≡ true
-  unfolding kept_behind all
-  word-last h = rw (words-end rows (length t) g w h) refl
+    pub kept_yes : late_enough t b g k ≡ true → KeptSoFar t b g n whole next
+    kept_yes y = record { same = rw y at decides; among = λ j m. s.among j (rw e (Memᴰ.tail m)) }
 
 -- by the rows as by the needs
 pub kept-is : (n : ℕ) (needs : List Need) (rows t b : List ℕ) → n ≤ max_jobs → NeedsIn n needs → RowsAre rows n needs → length t ≡ n
     → rows_kept rows t b ≡ needs_kept needs t b
-unfolding rows_kept kept_behind late_enough needs_kept
+unfolding rows_kept row_kept late_enough needs_kept
 kept-is n needs rows t b few needs-in are len = bool-ext (rows_kept rows t b) (needs_kept needs t b)
     (λ h. let f = simp tests at h in simp tests (λ d m. let w = needs-in d.0 d.1 m in
     f d.0 ((range-below (length t) d.0).1 (omega (arith, w.0))) d.1 (rw len (there d.0 d.1 m))))

@@ -8,9 +8,7 @@ use Rattle.rules.specs.Fields.{value, whole}
 use Rattle.rules.specs.JobFile.{job_of}
 use Rattle.rules.specs.Program.{slots}
 use Rattle.rules.specs.Table.{row_of, same_name}
-use Rattle.jobset.specs.declared.Set.{Set}
-use Rattle.jobset.specs.Sets.{members}
-use Rattle.needrows.specs.Rows.{row_bytes, takers_behind, takers_of}
+use Rattle.needrows.specs.Rows.{row_bytes, takers_of}
 
 -- ---- 15
 
@@ -53,25 +51,15 @@ shared t b i = cell_taken t b i (at t i) (at b i)
 unfoldable pub late_enough : List ℕ → List ℕ → ℕ → ℕ → Bool
 late_enough t b g k = choose (eqb (at b k) (at b g)) (leb (at t g + 1) (at t k)) (leb (at t g + 2) (at t k))
 
--- the takers in a word of a giver's row, numbered from `first`, are among n jobs
-abbrev pub WordIn : ℕ → ℕ → Set → Type 0
-WordIn n first S = (j : ℕ) → Memᴰ j (members S) → first + j < n
-
--- so are all takers in the rows of n jobs, and the bytes of the rows are there
+-- the takers in the rows of n jobs are among these, and the bytes of the rows are there
 pub record RowsIn (rows : List ℕ) (n : ℕ) : Type 0 where
   pub few : n ≤ max_jobs
   pub room : row_bytes * n ≤ length rows
   pub takers-in : (g k : ℕ) → g < n → Memᴰ k (takers_of rows n g) → k < n
 
--- the needs of giver g are kept: those in a word, those from word w on, all
-unfoldable pub word_kept : List ℕ → List ℕ → ℕ → ℕ → Set → Bool
-word_kept t b g first S = all (λ j. late_enough t b g (first + j)) (members S)
-
-unfoldable pub kept_behind : List ℕ → List ℕ → List ℕ → ℕ → ℕ → Bool
-kept_behind rows t b g w = all (late_enough t b g) (takers_behind rows (length t) g w)
-
-abbrev pub row_kept : List ℕ → List ℕ → List ℕ → ℕ → Bool
-row_kept rows t b g = kept_behind rows t b g 0
+-- the needs of giver g are kept
+unfoldable pub row_kept : List ℕ → List ℕ → List ℕ → ℕ → Bool
+row_kept rows t b g = all (late_enough t b g) (takers_of rows (length t) g)
 
 -- those of all givers
 unfoldable pub rows_kept : List ℕ → List ℕ → List ℕ → Bool

@@ -1,44 +1,62 @@
-// Random numbers, sizes, needs and job files of at most five jobs, and of extra jobs without needs behind them.
-//
-// Jobs count from 0. Needs are a table of 25: the need from a giver to a taker stands at five times the giver plus the taker, 1 where it is there.
-ghost use Rattle.std.specs.Prelude.{◌≤◌};
+// Random numbers, sizes, needs and job files of at most five jobs, and of extra jobs without needs behind them. Jobs count from 0.
+ghost use Rattle.std.specs.Prelude.{◌<◌, ◌≤◌};
 
 use sizes::TABLE_BYTES;
 
-// What a job file says besides its needs. `sockets` is the value of tag 9, 0 where there is none.
+// Which needs there are: a row for each giver, in it a value for each taker.
+pub(crate) type Needs = [[bool; 5]; 5];
+
+// What a job file says besides its needs. `sockets` is the value of tag 9.
 #[derive(Clone, Copy)]
 pub(crate) struct Sizes {
-    pub jobs: u8,
+    pub jobs: usize,
     pub limit: u8,
-    pub sockets: u8,
+    pub sockets: Option<u8>,
 }
 
-// The next number. Its upper half is what is used.
-pub(crate) fn next(seed: u64) -> u64 {
-    (seed % 4294967296 * 1664525 + 1013904223) % 4294967296
+// Random numbers below 65,536: each is the upper half of the state.
+#[derive(Clone, Copy)]
+pub(crate) struct Random(u32);
+
+impl Random {
+    // From the first state on.
+    pub(crate) fn new() -> Random {
+        Random(1)
+    }
+
+    // The number of this state.
+    pub(crate) fn number(&self) -> u32 {
+        self.0 >> 16
+    }
+
+    // The number of the next state.
+    pub(crate) fn next(&mut self) -> u32 {
+        self.0 = self.0.wrapping_mul(1664525).wrapping_add(1013904223);
+        self.number()
+    }
 }
 
 // 1 to 5 jobs, five of them in half of the files.
-pub(crate) fn jobs_of(number: u64) -> u8
+pub(crate) fn jobs_of(number: u32) -> usize
     ensures { result ≤ 5 }
 {
-    let jobs = 1 + (number % 8) as u8;
-    if jobs < 5 { jobs } else { 5 }
+    let jobs = 1 + (number % 8) as usize;
+    jobs.min(5)
 }
 
 // The value of tag 9 in half of the files: 1 to 4, now and then 8.
-pub(crate) fn sockets_of(number: u64) -> u8 {
+pub(crate) fn sockets_of(number: u32) -> Option<u8> {
     if number % 2 == 0 {
-        return 0;
+        return None;
     }
     if number / 2 % 16 == 0 {
-        return 8;
+        return Some(8);
     }
-    1 + (number / 32 % 4) as u8
+    Some(1 + (number / 32 % 4) as u8)
 }
 
 // The rank of a job in a random order, 0 to 7.
-fn rank(order: u64, job: usize) -> u64 {
+fn rank(order: u32, job: usize) -> u32 {
     match job {
         0 => order % 8,
         1 => order / 8 % 8,
@@ -48,31 +66,25 @@ fn rank(order: u64, job: usize) -> u64 {
     }
 }
 
-// 1 where there is to be a need between two of so many jobs: of those that keep the order, so many of eight; now and then one that does not.
-fn wanted(number: u64, order: u64, share: u64, jobs: usize, place: usize) -> u8 {
-    let giver = place / 5;
-    let taker = place % 5;
+// Is there to be a need between two of so many jobs: of those that keep the order, so many of eight; now and then one that does not?
+fn wanted(number: u32, order: u32, share: u32, jobs: usize, giver: usize, taker: usize) -> bool {
     if giver >= jobs || taker >= jobs || giver == taker || number % 8 >= share {
-        return 0;
+        return false;
     }
-    if rank(order, giver) < rank(order, taker) || number / 8 % 32 == 0 {
-        return 1;
-    }
-    0
+    rank(order, giver) < rank(order, taker) || number / 8 % 32 == 0
 }
 
-// Needs between so many jobs. Gives the last number drawn.
-pub(crate) fn draw_needs(seed: u64, jobs: usize, needs: &mut [u8; 25]) -> u64 {
-    let order = seed / 65536;
-    let mut last = next(seed);
-    let share = 1 + last / 65536 % 7;
-    let mut k = 0;
-    while k < 25 {
-        last = next(last);
-        needs[k] = wanted(last / 65536, order, share, jobs, k);
-        k += 1;
+// Needs between so many jobs.
+pub(crate) fn draw_needs(random: &mut Random, jobs: usize) -> Needs {
+    let order = random.next();
+    let share = 1 + random.next() % 7;
+    let mut needs = [[false; 5]; 5];
+    for giver in 0..5 {
+        for taker in 0..5 {
+            needs[giver][taker] = wanted(random.next(), order, share, jobs, giver, taker);
+        }
     }
-    last
+    needs
 }
 
 // A need, behind so many bytes: at every second step by tag 6. Gives the length with it.
@@ -80,33 +92,41 @@ fn put_need(file: &mut [u8; TABLE_BYTES], step: usize, at: usize, giver: u8, tak
     requires { at ≤ 7599 }
 {
     if step % 2 == 1 {
-        return drafts::put_wide_need(file, at, giver as u16, taker as u16);
+        return drafts::put_wide_need(file, at, u16::from(giver), u16::from(taker));
     }
     drafts::put_need(file, at, giver, taker)
 }
 
-// At a step of writing the needs, the one at a place of the table, where it is there, behind so many bytes; at place 0, which no need has, the field of
-// tag 9. Gives the length with it.
+// At a step of writing the needs, the one at a place of the table, row by row, where it is there, behind so many bytes; at place 0, which no need has, the
+// field of tag 9. Gives the length with it.
 fn put_if(
     file: &mut [u8; TABLE_BYTES],
-    sockets: u8,
-    needs: &[u8; 25],
+    sockets: Option<u8>,
+    needs: &Needs,
     step: usize,
     place: usize,
     at: usize,
-) -> usize {
-    if place == 0 && at <= TABLE_BYTES - 4 && sockets != 0 {
-        return drafts::put_sockets(file, at, sockets);
+) -> usize
+    requires { place < 25 }
+{
+    if at > TABLE_BYTES - 7 {
+        return at;
     }
-    if place < 25 && at <= TABLE_BYTES - 7 && needs[place] == 1 {
+    if place == 0 {
+        return match sockets {
+            Some(boards) => drafts::put_sockets(file, at, boards),
+            None => at,
+        };
+    }
+    if needs[place / 5][place % 5] {
         return put_need(file, step, at, 1 + (place / 5) as u8, 1 + (place % 5) as u8);
     }
     at
 }
 
 // The value of tag 9 at a step of writing the needs: it is written in the first round alone.
-fn sockets_at(sockets: u8, step: usize) -> u8 {
-    if step < 25 { sockets } else { 0 }
+fn sockets_at(sockets: Option<u8>, step: usize) -> Option<u8> {
+    if step < 25 { sockets } else { None }
 }
 
 // How many places are gone through from this one on: all, or in half of the files 15 once more.
@@ -121,19 +141,16 @@ fn steps_from(first: usize) -> usize
 pub(crate) fn put_file(
     file: &mut [u8; TABLE_BYTES],
     sizes: Sizes,
-    extras: u8,
-    needs: &[u8; 25],
+    extras: usize,
+    needs: &Needs,
     first: usize,
 ) -> usize
     requires { (sizes.jobs ≤ 5) × (extras ≤ 9) × (first ≤ 25) }
 {
-    let mut at = drafts::put_jobs(file, sizes.limit, (sizes.jobs + extras) as usize);
-    let steps = steps_from(first);
-    let mut k = 0;
-    while k < steps {
-        let sockets = sockets_at(sizes.sockets, k);
-        at = put_if(file, sockets, needs, k, (first + k) % 25, at);
-        k += 1;
+    let mut at = drafts::put_jobs(file, sizes.limit, sizes.jobs + extras);
+    for step in 0..steps_from(first) {
+        let sockets = sockets_at(sizes.sockets, step);
+        at = put_if(file, sockets, needs, step, (first + step) % 25, at);
     }
     at
 }

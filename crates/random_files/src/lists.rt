@@ -2,19 +2,20 @@
 // and of document 02, request 13.
 //
 // A list has a number below 7,776: its starts are the digits in base six, the first job's last. A job that the file does not have starts in slot 0.
-ghost use Rattle.std.specs.Prelude.{◌≤◌};
+ghost use Rattle.std.specs.Prelude.{◌<◌};
 
-use crate::draw::Sizes;
+use crate::draw::{Needs, Sizes};
 
-// The refusals of questions 11, 12 and 13, as the form for C gives them.
-pub const CIRCLE: u32 = 65547;
-
-pub const WIDE: u32 = 65548;
-
-pub const NONE: u32 = 65549;
+// Why a file has no table, by the number of the question that says so.
+#[derive(Clone, Copy, PartialEq, Eq)]
+pub(crate) enum Refused {
+    Circle = 11,
+    Wide = 12,
+    NoList = 13,
+}
 
 // The list of a number.
-pub(crate) fn list(number: u32) -> [u8; 5] {
+fn list(number: u32) -> [u8; 5] {
     [
         (number % 6) as u8,
         (number / 6 % 6) as u8,
@@ -25,7 +26,7 @@ pub(crate) fn list(number: u32) -> [u8; 5] {
 }
 
 // How many lists so many jobs have.
-fn lists(jobs: u8) -> u32 {
+fn lists(jobs: usize) -> u32 {
     match jobs {
         1 => 6,
         2 => 36,
@@ -35,61 +36,36 @@ fn lists(jobs: u8) -> u32 {
     }
 }
 
-// The start, or board, of a job; 0 where there is no such job.
-pub(crate) fn of(values: &[u8; 5], job: usize) -> u8 {
-    if job < 5 { values[job] } else { 0 }
-}
-
-// Is there a need?
-pub(crate) fn gives(needs: &[u8; 25], giver: usize, taker: usize) -> bool {
-    if giver < 5 {
-        if taker < 5 {
-            return needs[5 * giver + taker] == 1;
-        }
-    }
-    false
-}
-
-// The larger of two values.
-pub(crate) fn larger(a: u8, b: u8) -> u8 {
-    if a < b { b } else { a }
-}
-
-// The largest of five values.
-pub(crate) fn largest(values: &[u8; 5]) -> u8 {
-    let front = larger(larger(values[0], values[1]), values[2]);
-    larger(front, larger(values[3], values[4]))
-}
-
 // The largest start plus one.
 pub(crate) fn slots(starts: &[u8; 5]) -> u8 {
-    let last = largest(starts);
-    if last < 255 { last + 1 } else { last }
+    starts.iter().copied().max().unwrap_or(0).saturating_add(1)
 }
 
 // Does the taker run in the slot right after the giver, with a need between them?
-pub(crate) fn follows(needs: &[u8; 25], starts: &[u8; 5], giver: usize, taker: usize) -> bool {
-    let start = of(starts, giver);
-    start < 255 && of(starts, taker) == start + 1 && gives(needs, giver, taker)
+pub(crate) fn follows(needs: &Needs, starts: &[u8; 5], giver: usize, taker: usize) -> bool
+    requires { (giver < 5) × (taker < 5) }
+{
+    needs[giver][taker] && starts[giver].checked_add(1) == Some(starts[taker])
 }
 
 // Does a taker start before the slot after its giver?
-fn early(needs: &[u8; 25], starts: &[u8; 5]) -> bool {
-    let mut k = 0;
-    while k < 25 {
-        if needs[k] == 1 && of(starts, k % 5) <= of(starts, k / 5) {
+fn early(needs: &Needs, starts: &[u8; 5]) -> bool {
+    for (takers, giver) in needs.iter().zip(starts) {
+        if takers
+            .iter()
+            .zip(starts)
+            .any(|(need, taker)| *need && *taker <= *giver)
+        {
             return true;
         }
-        k += 1;
     }
     false
 }
 
-// Are a and b, with a the lower, both takers of the job in the slot right after it, or both its givers in the slot right before it?
-fn beside(needs: &[u8; 25], starts: &[u8; 5], job: usize, a: usize, b: usize) -> bool {
-    if b <= a {
-        return false;
-    }
+// Are a and b both takers of the job in the slot right after it, or both its givers in the slot right before it?
+fn beside(needs: &Needs, starts: &[u8; 5], job: usize, a: usize, b: usize) -> bool
+    requires { (job < 5) × (a < 5) × (b < 5) }
+{
     if follows(needs, starts, job, a) && follows(needs, starts, job, b) {
         return true;
     }
@@ -97,63 +73,43 @@ fn beside(needs: &[u8; 25], starts: &[u8; 5], job: usize, a: usize, b: usize) ->
 }
 
 // Do two takers of one job start in the slot right after it, or two givers of one job run in the slot right before it?
-fn crowded(needs: &[u8; 25], starts: &[u8; 5]) -> bool {
-    let mut k = 0;
-    while k < 125 {
-        if beside(needs, starts, k / 25, k / 5 % 5, k % 5) {
-            return true;
+fn crowded(needs: &Needs, starts: &[u8; 5]) -> bool {
+    for job in 0..5 {
+        for b in 0..5 {
+            for a in 0..b {
+                if beside(needs, starts, job, a, b) {
+                    return true;
+                }
+            }
         }
-        k += 1;
     }
     false
-}
-
-// 1 where one of so many jobs starts in the slot.
-fn runs(starts: &[u8; 5], jobs: u8, slot: u8, job: u8) -> u8
-    ensures { result ≤ 1 }
-{
-    if job < jobs && of(starts, job as usize) == slot {
-        return 1;
-    }
-    0
 }
 
 // How many of so many jobs start in the slot.
-fn load(starts: &[u8; 5], jobs: u8, slot: u8) -> u8 {
-    let front = runs(starts, jobs, slot, 0) + runs(starts, jobs, slot, 1);
-    let back = runs(starts, jobs, slot, 2) + runs(starts, jobs, slot, 3);
-    front + back + runs(starts, jobs, slot, 4)
+fn load(starts: &[u8; 5], jobs: usize, slot: u8) -> usize {
+    starts
+        .iter()
+        .take(jobs)
+        .filter(|start| **start == slot)
+        .count()
 }
 
-// The most boards, eight without tag 9.
-fn most_boards(sockets: u8) -> u8 {
-    if sockets == 0 { 8 } else { sockets }
-}
-
-// Do more jobs start in some slot than there are boards?
+// Do more jobs start in some slot than there are boards, eight without tag 9?
 fn overloaded(sizes: Sizes, starts: &[u8; 5]) -> bool {
-    let most = most_boards(sizes.sockets);
-    let mut slot = 0;
-    while slot < 6 {
-        if most < load(starts, sizes.jobs, slot) {
-            return true;
-        }
-        slot += 1;
-    }
-    false
+    let most = usize::from(sizes.sockets.unwrap_or(8));
+    (0..6).any(|slot| most < load(starts, sizes.jobs, slot))
 }
 
 // Is the list a preferred to b? The earliest slot whose jobs differ decides, and there the lowest job that runs in just one of them.
 fn preferred(a: &[u8; 5], b: &[u8; 5]) -> bool {
-    let mut k: u8 = 0;
-    while k < 30 {
-        let slot = k / 5;
-        let job = (k % 5) as usize;
-        let mine = of(a, job) == slot;
-        if mine != (of(b, job) == slot) {
-            return mine;
+    for slot in 0..6 {
+        for (mine, other) in a.iter().zip(b) {
+            let runs = *mine == slot;
+            if runs != (*other == slot) {
+                return runs;
+            }
         }
-        k += 1;
     }
     false
 }
@@ -169,58 +125,56 @@ fn before(starts: &[u8; 5], other: &[u8; 5]) -> bool {
 }
 
 // Does a list fit the limit and the boards, and satisfy P?
-fn fits(needs: &[u8; 25], sizes: Sizes, starts: &[u8; 5]) -> bool {
+fn fits(needs: &Needs, sizes: Sizes, starts: &[u8; 5]) -> bool {
     if sizes.limit < slots(starts) || overloaded(sizes, starts) {
         return false;
     }
     !early(needs, starts) && !crowded(needs, starts)
 }
 
-// Does the list of a number come before the best so far, and fit?
-fn better(needs: &[u8; 25], sizes: Sizes, number: u32, best: u32) -> bool {
-    let starts = list(number);
-    let other = list(best);
-    if best != NONE && !before(&starts, &other) {
-        return false;
+// Does the list come before the best so far, and fit?
+fn better(needs: &Needs, sizes: Sizes, starts: &[u8; 5], best: &Option<[u8; 5]>) -> bool {
+    if let Some(best) = best {
+        if !before(starts, best) {
+            return false;
+        }
     }
-    fits(needs, sizes, &starts)
+    fits(needs, sizes, starts)
 }
 
 // Adds what a chain by way of one more job leads to.
-fn lead(reached: &mut [u8; 25], via: usize, from: usize, to: usize) {
-    if from < 5 {
-        if to < 5 {
-            if gives(reached, from, via) && gives(reached, via, to) {
-                reached[5 * from + to] = 1;
+fn lead(reached: &mut Needs, via: usize)
+    requires { via < 5 }
+{
+    for from in 0..5 {
+        for to in 0..5 {
+            if reached[from][via] && reached[via][to] {
+                reached[from][to] = true;
             }
         }
     }
 }
 
 // Does a chain of needs lead from a job back to it?
-fn circle(needs: &[u8; 25]) -> bool {
+fn circle(needs: &Needs) -> bool {
     let mut reached = *needs;
-    let mut k = 0;
-    while k < 125 {
-        lead(&mut reached, k / 25, k / 5 % 5, k % 5);
-        k += 1;
+    for via in 0..5 {
+        lead(&mut reached, via);
     }
-    reached[0] == 1 || reached[6] == 1 || reached[12] == 1 || reached[18] == 1 || reached[24] == 1
+    reached[0][0] || reached[1][1] || reached[2][2] || reached[3][3] || reached[4][4]
 }
 
-// The number of the best list for these sizes, or the refusal.
-pub(crate) fn best(needs: &[u8; 25], sizes: Sizes) -> u32 {
+// The best list for these sizes, or the refusal.
+pub(crate) fn best(needs: &Needs, sizes: Sizes) -> Result<[u8; 5], Refused> {
     if circle(needs) {
-        return CIRCLE;
+        return Err(Refused::Circle);
     }
-    let many = lists(sizes.jobs);
-    let mut best = NONE;
-    let mut number = 0;
-    while number < many {
-        if better(needs, sizes, number, best) {
-            best = number;
+    let mut best = None;
+    for number in 0..lists(sizes.jobs) {
+        let starts = list(number);
+        if better(needs, sizes, &starts, &best) {
+            best = Some(starts);
         }
-        number += 1;
     }
-    best
+    best.ok_or(Refused::NoList)
 }

@@ -13,14 +13,19 @@
 // without tag 9.
 #![tactic(auto)]
 
+mod counts;
 mod draw;
 mod lists;
 mod placing;
 mod trial;
 mod width;
 
-const STDOUT_FILENO: i32 = 1;
+use std::io;
 
-fn main() {
-    trial::all();
+// How many files.
+const FILES: u64 = 5000;
+
+fn main(rt: HostRuntime) -> io::Result<()> {
+    let counts = trial::try_files(FILES);
+    println!(rt; "files {FILES}\n{counts}")
 }

@@ -1,64 +1,75 @@
 // The boards of a start list of at most five jobs, from the words of document 01: slot by slot, first the jobs with a giver in the slot before.
-use crate::lists::{follows, of};
+ghost use Rattle.std.specs.Prelude.{◌<◌, ◌≤◌};
 
-// The board of the giver in the slot before; 0 where there is none.
-fn inherited(needs: &[u8; 25], starts: &[u8; 5], boards: &[u8; 5], job: usize) -> u8 {
-    let mut giver = 0;
-    while giver < 5 {
+use crate::draw::Needs;
+use crate::lists::follows;
+
+// The board of the giver in the slot before.
+fn inherited(needs: &Needs, starts: &[u8; 5], boards: &[Option<u8>; 5], job: usize) -> Option<u8>
+    requires { job < 5 }
+{
+    for giver in 0..5 {
         if follows(needs, starts, giver, job) {
-            return of(boards, giver);
+            return boards[giver];
         }
-        giver += 1;
     }
-    0
+    None
 }
 
 // Does a job of the slot have the board?
-fn taken(starts: &[u8; 5], boards: &[u8; 5], slot: u8, board: u8) -> bool {
-    let mut job = 0;
-    while job < 5 {
-        if of(starts, job) == slot && of(boards, job) == board {
-            return true;
-        }
-        job += 1;
-    }
-    false
+fn taken(starts: &[u8; 5], boards: &[Option<u8>; 5], slot: u8, board: u8) -> bool {
+    starts
+        .iter()
+        .zip(boards)
+        .any(|(start, other)| *start == slot && *other == Some(board))
 }
 
 // The lowest board left in the slot.
-fn left(starts: &[u8; 5], boards: &[u8; 5], slot: u8) -> u8 {
-    let mut board = 1;
-    while board < 5 && taken(starts, boards, slot, board) {
-        board += 1;
+fn left(starts: &[u8; 5], boards: &[Option<u8>; 5], slot: u8) -> u8 {
+    for board in 1..5 {
+        if !taken(starts, boards, slot, board) {
+            return board;
+        }
     }
-    board
+    5
 }
 
-// The board of a job after a turn of its slot: first those that inherit it have theirs, then the others.
-fn board(needs: &[u8; 25], starts: &[u8; 5], boards: &[u8; 5], second: bool, job: usize) -> u8 {
-    if !second {
-        return inherited(needs, starts, boards, job);
+// Gives those of so many jobs that start in the slot and inherit a board theirs.
+fn place_takers(
+    needs: &Needs,
+    starts: &[u8; 5],
+    jobs: usize,
+    slot: u8,
+    boards: &mut [Option<u8>; 5],
+)
+    requires { jobs ≤ 5 }
+{
+    for job in 0..jobs {
+        if starts[job] == slot {
+            boards[job] = inherited(needs, starts, boards, job);
+        }
     }
-    if of(boards, job) != 0 {
-        return of(boards, job);
-    }
-    left(starts, boards, of(starts, job))
 }
 
-// The board of one of so many jobs after a turn, of which each slot has two for each job.
-fn after(needs: &[u8; 25], starts: &[u8; 5], boards: &[u8; 5], jobs: usize, turn: usize) -> u8 {
-    let job = turn % 5;
-    if jobs <= job || (of(starts, job) as usize) != turn / 10 {
-        return of(boards, job);
+// Gives each of so many jobs that starts in the slot without a board the lowest one left.
+fn place_others(starts: &[u8; 5], jobs: usize, slot: u8, boards: &mut [Option<u8>; 5])
+    requires { jobs ≤ 5 }
+{
+    for job in 0..jobs {
+        if starts[job] == slot && boards[job].is_none() {
+            boards[job] = Some(left(starts, boards, slot));
+        }
     }
-    board(needs, starts, boards, turn / 5 % 2 == 1, job)
 }
 
 // The boards of so many jobs.
-pub(crate) fn place(needs: &[u8; 25], starts: &[u8; 5], jobs: usize, boards: &mut [u8; 5]) {
-    let mut turn = 0;
-    while turn < 60 {
-        boards[turn % 5] = after(needs, starts, boards, jobs, turn);
-        turn += 1;
+pub(crate) fn place(needs: &Needs, starts: &[u8; 5], jobs: usize) -> [Option<u8>; 5]
+    requires { jobs ≤ 5 }
+{
+    let mut boards = [None; 5];
+    for slot in 0..6 {
+        place_takers(needs, starts, jobs, slot, &mut boards);
+        place_others(starts, jobs, slot, &mut boards);
     }
+    boards
 }

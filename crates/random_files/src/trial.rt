@@ -1,45 +1,44 @@
 // The planner on random files, compared with the search, and what is counted.
 ghost use Rattle.std.specs.Prelude.{◌≤◌};
 
-use crate::STDOUT_FILENO;
-use crate::draw::{Sizes, draw_needs, jobs_of, next, put_file, sockets_of};
-use crate::lists::{CIRCLE, NONE, WIDE, best, largest, list, of, slots};
+use crate::counts::{Counts, Right, Wrong};
+use crate::draw::{Needs, Random, Sizes, draw_needs, jobs_of, put_file, sockets_of};
+use crate::lists::{Refused, best, slots};
 use crate::placing::place;
 use crate::width::width;
-use sizes::TABLE_BYTES;
-
-// How many files.
-const FILES: u64 = 5000;
-
-// What is said of a file, besides its refusal or the slots of its table, where that is right: the answer or a buffer differs, or the check refuses the
-// table.
-const DIFFERS: u32 = 0;
-
-const UNCHECKED: u32 = 100;
-
-// A byte of a table, 0 behind it.
-fn byte(table: &[u8; TABLE_BYTES], at: usize) -> u8 {
-    if at < TABLE_BYTES { table[at] } else { 0 }
-}
-
-// Has the row of a job this start and board?
-fn same_row(table: &[u8; TABLE_BYTES], job: usize, start: u8, board: u8) -> bool {
-    if job < 5 {
-        return byte(table, 9 + 8 * job) == start && byte(table, 10 + 8 * job) == board;
-    }
-    false
-}
+use sizes::{TABLE_BYTES, WORK_BYTES};
 
 // Have so many rows of a table these starts and boards?
-fn same_rows(table: &[u8; TABLE_BYTES], starts: &[u8; 5], boards: &[u8; 5], jobs: usize) -> bool {
-    let mut job = 0;
-    while job < 5 && job < jobs {
-        if !same_row(table, job, of(starts, job), of(boards, job)) {
+fn same_rows(
+    table: &[u8; TABLE_BYTES],
+    starts: &[u8; 5],
+    boards: &[Option<u8>; 5],
+    jobs: usize,
+) -> bool
+    requires { jobs ≤ 5 }
+{
+    for job in 0..jobs {
+        if table[9 + 8 * job] != starts[job] || Some(table[10 + 8 * job]) != boards[job] {
             return false;
         }
-        job += 1;
     }
     true
+}
+
+// The largest of these boards.
+fn largest(boards: &[Option<u8>; 5]) -> Option<u8> {
+    boards.iter().filter_map(|board| *board).max()
+}
+
+// Has a table these starts, the boards that they lead to, and the head that goes with them?
+fn same_table(table: &[u8; TABLE_BYTES], needs: &Needs, starts: &[u8; 5], jobs: usize) -> bool
+    requires { jobs ≤ 5 }
+{
+    let boards = place(needs, starts, jobs);
+    if table[4] != slots(starts) || Some(table[5]) != largest(&boards) {
+        return false;
+    }
+    same_rows(table, starts, &boards, jobs)
 }
 
 // What both buffers are full of before a call: a byte that differs from file to file, and is never 0.
@@ -51,43 +50,16 @@ fn noise(file: &[u8]) -> u8 {
     170
 }
 
-// Has a table these starts, the boards that they lead to, and the head that goes with them?
-fn same_table(table: &[u8; TABLE_BYTES], needs: &[u8; 25], starts: &[u8; 5], jobs: usize) -> bool {
-    let mut boards = [0; 5];
-    place(needs, starts, jobs, &mut boards);
-    if byte(table, 4) != slots(starts) || byte(table, 5) != largest(&boards) {
-        return false;
-    }
-    same_rows(table, starts, &boards, jobs)
-}
-
-// Have the bytes from one place to before another this value?
-fn filled(bytes: &[u8], from: usize, to: usize, value: u8) -> bool {
-    let mut at = from;
-    while at < to && at < bytes.len() {
-        if bytes[at] != value {
-            return false;
-        }
-        at += 1;
-    }
-    true
-}
-
-// How many bytes of the table buffer the answer may change.
-fn written(answer: u32) -> usize {
-    if answer < CIRCLE { answer as usize } else { 0 }
-}
-
-// The planner's answer. The working buffer has eight bytes more than are used; DIFFERS where a buffer is not as the answer leaves it.
-fn plan(file: &[u8], table: &mut [u8; TABLE_BYTES]) -> u32 {
+// The planner's answer, where it leaves both buffers as it is to. The working buffer has eight bytes more than are used.
+fn plan(file: &[u8], table: &mut [u8; TABLE_BYTES]) -> Result<Result<usize, u32>, Wrong> {
     let before = noise(file);
-    let mut work = [before; 65544];
-    let answer = gate::gate_plan(file, &mut work, table);
-    let zeroed = filled(&work, 0, 65536, 0) && filled(&work, 65536, 65544, before);
-    if zeroed && filled(table, written(answer), TABLE_BYTES, before) {
-        return answer;
+    let mut work = [before; WORK_BYTES + 8];
+    let answer = trials::answer(gate::gate_plan(file, &mut work, table));
+    if trials::clean(answer, before, &work, table) {
+        Ok(answer)
+    } else {
+        Err(Wrong::Differs)
     }
-    DIFFERS
 }
 
 // Does the check pass a table of so many bytes?
@@ -95,181 +67,120 @@ fn passes(file: &[u8], table: &[u8; TABLE_BYTES], size: usize) -> bool {
     gate::gate_check(file, drafts::front(table, size)) == 0
 }
 
-// What is said of a table of so many bytes, compared with the list of a number.
+// What is said of a table of so many bytes, compared with a list of starts.
 fn say_table(
     file: &[u8],
     table: &[u8; TABLE_BYTES],
     size: usize,
-    needs: &[u8; 25],
+    needs: &Needs,
     jobs: usize,
-    number: u32,
-) -> u32 {
-    let starts = list(number);
-    if !same_table(table, needs, &starts, jobs) {
-        return DIFFERS;
+    starts: &[u8; 5],
+) -> Result<Right, Wrong>
+    requires { jobs ≤ 5 }
+{
+    if !same_table(table, needs, starts, jobs) {
+        return Err(Wrong::Differs);
     }
     if !passes(file, table, size) {
-        return UNCHECKED;
+        return Err(Wrong::Unchecked);
     }
-    slots(&starts) as u32
+    Ok(Right::Table(slots(starts)))
 }
 
-// What is said of a file for which the search gives this number.
-fn say(file: &[u8], needs: &[u8; 25], jobs: usize, number: u32) -> u32 {
+// What is said of a file for which the search gives this.
+fn say(
+    file: &[u8],
+    needs: &Needs,
+    jobs: usize,
+    right: Result<[u8; 5], Refused>,
+) -> Result<Right, Wrong>
+    requires { jobs ≤ 5 }
+{
     let mut table = [noise(file); TABLE_BYTES];
-    let answer = plan(file, &mut table);
-    if answer != DIFFERS && number < CIRCLE {
-        return say_table(file, &table, answer as usize, needs, jobs, number);
+    match (plan(file, &mut table)?, right) {
+        (Ok(size), Ok(starts)) => say_table(file, &table, size, needs, jobs, &starts),
+        (Err(question), Err(refused)) if question == refused as u32 => Ok(Right::Refused(refused)),
+        _ => Err(Wrong::Differs),
     }
-    if answer == number { number } else { DIFFERS }
 }
 
 // Has the file a table that passes, or is it refused by 13?
-fn narrow(file: &[u8]) -> bool {
+fn narrow(file: &[u8]) -> Result<bool, Wrong> {
     let mut table = [noise(file); TABLE_BYTES];
-    let answer = plan(file, &mut table);
-    answer == NONE || answer < CIRCLE && passes(file, &table, answer as usize)
+    match plan(file, &mut table)? {
+        Ok(size) => Ok(passes(file, &table, size)),
+        Err(question) => Ok(question == Refused::NoList as u32),
+    }
 }
 
 // Is the file refused by 12?
-fn wide(file: &[u8]) -> bool {
+fn wide(file: &[u8]) -> Result<bool, Wrong> {
     let mut table = [noise(file); TABLE_BYTES];
-    plan(file, &mut table) == WIDE
+    Ok(plan(file, &mut table)? == Err(Refused::Wide as u32))
 }
 
 // How many jobs without needs make the width of a file eight.
-fn room(width: u8) -> u8
+fn room(width: usize) -> usize
     ensures { result ≤ 8 }
 {
-    if width < 8 { 8 - width } else { 0 }
+    8usize.saturating_sub(width)
 }
 
 // What is said of a file with so many extra jobs, that make its width eight, and with one more.
-fn say_wide(needs: &[u8; 25], sizes: Sizes, extras: u8, first: usize) -> u32
+fn say_wide(needs: &Needs, sizes: Sizes, extras: usize, first: usize) -> Result<Right, Wrong>
     requires { (sizes.jobs ≤ 5) × (extras ≤ 8) × (first ≤ 25) }
 {
     let mut eight = [0; TABLE_BYTES];
     let mut nine = [0; TABLE_BYTES];
     let size = put_file(&mut eight, sizes, extras, needs, first);
     let more = put_file(&mut nine, sizes, extras + 1, needs, first);
-    if narrow(drafts::front(&eight, size)) && wide(drafts::front(&nine, more)) {
-        return WIDE;
-    }
-    DIFFERS
-}
-
-// The place of a count: tables, refused 11, 13 and 12; the sum of slots stands at 4; differ, check refused; changed by tag 9.
-fn place_of(said: u32) -> usize {
-    match said {
-        CIRCLE => 1,
-        NONE => 2,
-        WIDE => 3,
-        DIFFERS => 5,
-        UNCHECKED => 6,
-        _ => 0,
+    if narrow(drafts::front(&eight, size))? && wide(drafts::front(&nine, more))? {
+        Ok(Right::Refused(Refused::Wide))
+    } else {
+        Err(Wrong::Differs)
     }
 }
 
-fn sum(n: u64, more: u32) -> u64 {
-    if n < 1000000000 { n + (more as u64) } else { n }
-}
-
-// Adds to a count.
-fn add(counts: &mut [u64; 8], place: usize, more: u32) {
-    if place < 8 {
-        counts[place] = sum(counts[place], more);
-    }
-}
-
-// Counts a file of which this is said.
-fn count(counts: &mut [u64; 8], said: u32) {
-    let place = place_of(said);
-    add(counts, place, 1);
-    if place == 0 {
-        add(counts, 4, said);
-    }
-}
-
-// Does the search give another number without tag 9?
-fn changed(needs: &[u8; 25], sizes: Sizes, number: u32) -> bool {
+// Does the search give something else without tag 9?
+fn changed(needs: &Needs, sizes: Sizes, right: Result<[u8; 5], Refused>) -> bool {
     let without = Sizes {
-        jobs: sizes.jobs,
-        limit: sizes.limit,
-        sockets: 0,
+        sockets: None,
+        ..sizes
     };
-    sizes.sockets != 0 && best(needs, without) != number
+    sizes.sockets.is_some() && best(needs, without) != right
 }
 
-// One file, with limit 1 to 6; where it has no circle, with extra jobs too. Gives the last number drawn.
-fn try_file(seed: u64, counts: &mut [u64; 8]) -> u64 {
-    let number = seed / 65536;
+// One file, with limit 1 to 6; where it has no circle, with extra jobs too.
+fn try_file(random: &mut Random, counts: &mut Counts) {
+    let number = random.number();
     let jobs = jobs_of(number);
-    let mut needs = [0; 25];
-    let last = draw_needs(next(seed), jobs as usize, &mut needs);
+    let needs = draw_needs(random, jobs);
     let sizes = Sizes {
         jobs,
         limit: 1 + (number / 8 % 6) as u8,
-        sockets: sockets_of(last / 65536),
+        sockets: sockets_of(random.number()),
     };
     let first = (number / 64 % 25) as usize;
     let mut file = [0; TABLE_BYTES];
     let size = put_file(&mut file, sizes, 0, &needs, first);
     let right = best(&needs, sizes);
-    count(
-        counts,
-        say(drafts::front(&file, size), &needs, jobs as usize, right),
-    );
-    if right != CIRCLE {
-        count(
-            counts,
-            say_wide(&needs, sizes, room(width(&needs, sizes)), first),
-        );
+    counts.count(say(drafts::front(&file, size), &needs, jobs, right));
+    if right != Err(Refused::Circle) {
+        let extras = room(width(&needs, sizes));
+        counts.count(say_wide(&needs, sizes, extras, first));
     }
     if changed(&needs, sizes, right) {
-        add(counts, 7, 1);
-    }
-    next(last)
-}
-
-// All files.
-fn try_files(counts: &mut [u64; 8]) {
-    let mut seed = 1;
-    let mut i = 0;
-    while i < FILES {
-        seed = try_file(seed, counts);
-        i += 1;
+        counts.count_changed();
     }
 }
 
-fn show(label: &[u8], number: u64) {
-    io::write_all(STDOUT_FILENO, label);
-    io::print_decimal(STDOUT_FILENO, number);
-    io::write_all(STDOUT_FILENO, b"\n");
-}
-
-// A line with a count.
-fn show_count(label: &[u8], counts: &[u64; 8], place: usize) {
-    if place < 8 {
-        show(label, counts[place]);
+// So many files, and what was counted.
+pub(crate) fn try_files(files: u64) -> Counts {
+    let mut counts = Counts::default();
+    let mut random = Random::new();
+    for _ in 0..files {
+        try_file(&mut random, &mut counts);
+        random.next();
     }
-}
-
-// What was counted, a line each.
-fn show_counts(counts: &[u64; 8]) {
-    show_count(b"tables ", counts, 0);
-    show_count(b"refused 11 ", counts, 1);
-    show_count(b"refused 13 ", counts, 2);
-    show_count(b"refused 12 with extra jobs ", counts, 3);
-    show_count(b"sum of slots ", counts, 4);
-    show_count(b"differ ", counts, 5);
-    show_count(b"check refused ", counts, 6);
-    show_count(b"changed by tag 9 ", counts, 7);
-}
-
-// All files, and what was counted.
-pub(crate) fn all() {
-    let mut counts = [0; 8];
-    try_files(&mut counts);
-    show(b"files ", FILES);
-    show_counts(&counts);
+    counts
 }

@@ -2,7 +2,6 @@
 use Rattle.std.specs.Prelude.{◌≡◌, ◌↔◌, Bool, ◌&&◌, ℕ, zero, suc, ◌+◌, ◌≤◌, ◌<◌, T, ltb, length, set, take, replicate}
 use Rattle.std.proofs.Math.Path.{refl}
 use Rattle.std.proofs.Common.{sym, ap, ◌∙◌, add-one, arith, length-set, length-append, get_or-set_other, take-suc-set}
-use mathlib.Core.List.Memᴰ
 use mathlib.Core.List.{List, [], ◌∷◌, ◌++◌, append-nil, Memᴰ}
 use Rattle.std.proofs.Math.Decide.{ℕ_discrete}
 use Rattle.std.proofs.Math.Dec.{eqb}
@@ -15,7 +14,7 @@ use Rattle.laws.specs.Counting.{passing, count_none, count_most}
 use Rattle.needrows.specs.Rows.{takers_of}
 use Rattle.needrows.specs.Takers.{takers-distinct}
 use Rattle.releases.specs.Peels.{each}
-use Rattle.releases.specs.Arrays.{length-each, each-other, each_at, distinct-front, count-one, count_same}
+use Rattle.releases.specs.Arrays.{length-each, each-other, each_at, count-one, count_same}
 use Rattle.releases.specs.Ordered.{RowsOf}
 use Rattle.releases.specs.Ends.{giver_count, Waits, first_jobs, First}
 
@@ -34,17 +33,16 @@ countable-turn k ks waits w = record {
   small = λ j m. rw (get_or-set_other waits k j (at waits k + 1) 0 (λ e. w.once.0 (rw e at m))) (w.small j (Memᴰ.tail m));
 }
 
-pub countable-front : (xs ys waits : List ℕ) → Countable (xs ++ ys) waits → Countable xs waits
-countable-front xs ys waits w = record {
-  in-jobs = λ k m. w.in-jobs k (Memᴰ.append_left ys m);
-  once = distinct-front xs ys w.once;
-  small = λ k m. w.small k (Memᴰ.append_left ys m);
-}
+-- the first of those that are left has room, and so have the others after it
+pub record CountTurn (k : ℕ) (ks waits : List ℕ) : Type 0 where
+  pub in-jobs : k < max_jobs
+  pub small : at waits k ≤ max_jobs
+  pub others : Countable ks (set waits k (at waits k + 1))
 
-pub countable-behind : (xs ys waits : List ℕ) → Countable (xs ++ ys) waits → Countable ys (each (◌+ 1) xs waits)
-unfolding each
-countable-behind [] ys waits w = w
-countable-behind (x ∷ xs) ys waits w = countable-behind xs ys (set waits x (at waits x + 1)) (countable-turn x (xs ++ ys) waits w)
+pub countable-first : {xs : List ℕ} {waits : List ℕ} (k : ℕ) (ks : List ℕ) → xs ≡ k ∷ ks → Countable xs waits → CountTurn k ks waits
+countable-first {waits = waits} k ks e w =
+    let v = rw e at w in
+    record { in-jobs = v.in-jobs k (Memᴰ.head refl); small = v.small k (Memᴰ.head refl); others = countable-turn k ks waits v }
 
 -- ---- giver by giver
 

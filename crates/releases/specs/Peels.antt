@@ -3,12 +3,17 @@ use Rattle.std.specs.Prelude.{List, [], ◌∷◌, map, ℕ, ◌+◌, ◌-◌, e
 use Rattle.rules.specs.Basics.{choose, at}
 use Rattle.jobset.specs.declared.Set.{Set}
 use Rattle.jobset.specs.Sets.{members}
-use Rattle.needrows.specs.Rows.{takers_of}
+use Rattle.needrows.specs.declared.RowTakers.{RowTakers}
+use Rattle.needrows.specs.Rows.{takers_of, left_at}
 use Rattle.releases.specs.Codes.{raised, behind}
 
 -- the members of a set, numbered from `first`
 abbrev pub numbered : ℕ → Set → List ℕ
 numbered first s = map (first +◌) (members s)
+
+-- the takers that an iterator has left
+abbrev pub left : RowTakers → List ℕ
+left s = left_at s.rows.now s.giver s.last s.at s.here
 
 -- the entries of l at the places xs, changed by f one after the other
 unfoldable pub each : (ℕ → ℕ) → List ℕ → List ℕ → List ℕ

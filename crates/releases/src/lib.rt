@@ -14,8 +14,8 @@ ghost use Rattle.rules.specs.Basics.{at};
 ghost use Rattle.rules.specs.Needs.{Need, NeedsIn};
 ghost use Rattle.rules.specs.Windows.{tail as tail_of};
 ghost use Rattle.needrows.specs.Rows.{takers_of, RowsAre};
-ghost use Rattle.releases.specs.Codes.{slot_bound, raised, behind, raised_over};
-ghost use Rattle.releases.specs.Peels.{numbered, each, peel_of, peel_need, peel_all, released, peel_job};
+ghost use Rattle.releases.specs.Codes.{slot_bound, raised, behind};
+ghost use Rattle.releases.specs.Peels.{each, peel_of, peel_need, peel_all, released, peel_job};
 ghost use Rattle.releases.specs.Ready.{Ready};
 ghost use Rattle.releases.specs.Ordered.{OfNeeds, OrderOf, RowsOf, Peeled};
 ghost use Rattle.releases.specs.Ends.{Waits, First};
@@ -23,8 +23,6 @@ ghost use Rattle.releases.specs.Counted.{Countable};
 ghost use Rattle.releases.specs.Tails.{tail_over};
 ghost use Rattle.releases.specs.Least.{least_of};
 
-use jobset::Set;
-use needrows::{WORD_BITS, word, words};
 use sizes::MAX_JOBS;
 
 // The code after one slot more.
@@ -43,6 +41,7 @@ fn raised(code: u16, slot: u16) -> u16
 }
 
 // The slot behind those that a code has met: the latest, and one more where it was met twice.
+#[tactic(auto, unfolding(crate::specs::Codes::behind))]
 fn behind(code: u16) -> u16
     ensures { result ≡ behind code }
 {
@@ -51,29 +50,13 @@ fn behind(code: u16) -> u16
 
 // ---- the order and the releases
 
-// The takers in a word, numbered from `first`, have one giver more.
-fn count_word(waits: &mut [u16; MAX_JOBS], first: usize, takers: Set)
-    requires { Countable (numbered first takers) waits.old }
-    ensures { waits.new ≡ each (◌+ 1) (numbered first takers) waits.old }
-{
-    let mut rest = takers;
-    while !rest.is_empty() {
-        let taker = first + rest.lowest() as usize;
-        waits[taker] = waits[taker] + 1;
-        rest = rest.rest();
-    }
-}
-
-// The takers of one giver.
-fn count_row(waits: &mut [u16; MAX_JOBS], rows: &[u8], jobs: usize, giver: usize)
+// The takers of a giver have one giver more.
+fn count_takers(waits: &mut [u16; MAX_JOBS], rows: &[u8], jobs: usize, giver: usize)
     requires { RowsOf rows.now jobs × (giver < jobs) × Countable (takers_of rows.now jobs giver) waits.old }
     ensures { waits.new ≡ each (◌+ 1) (takers_of rows.now jobs giver) waits.old }
 {
-    let count = words(jobs);
-    let mut w = 0;
-    while w < count {
-        count_word(waits, WORD_BITS * w, word(rows, giver, w));
-        w += 1;
+    for taker in needrows::takers(rows, jobs, giver) {
+        waits[taker] += 1;
     }
 }
 
@@ -82,10 +65,8 @@ fn count_givers(waits: &mut [u16; MAX_JOBS], rows: &[u8], jobs: usize)
     requires { RowsOf rows.now jobs × (waits.old ≡ replicate max_jobs 0) }
     ensures { Waits rows.now jobs waits.new }
 {
-    let mut giver = 0;
-    while giver < jobs {
-        count_row(waits, rows, jobs, giver);
-        giver += 1;
+    for giver in 0..jobs {
+        count_takers(waits, rows, jobs, giver);
     }
 }
 
@@ -95,12 +76,9 @@ fn first_jobs(waits: &[u16; MAX_JOBS], jobs: usize, order: &mut [u16; MAX_JOBS])
     ensures { First waits.now jobs result order.new }
 {
     let mut count = 0;
-    let mut job = 0;
-    while job < jobs {
-        let next = job;
-        job += 1;
-        if waits[next] == 0 {
-            order[count] = next as u16;
+    for job in 0..jobs {
+        if waits[job] == 0 {
+            order[count] = job as u16;
             count += 1;
         }
     }
@@ -109,6 +87,7 @@ fn first_jobs(waits: &[u16; MAX_JOBS], jobs: usize, order: &mut [u16; MAX_JOBS])
 
 // A giver of the taker is peeled: its slot raises the taker's code, and where it was the last one the taker enters the order, which has
 // `count` jobs before and as many as this gives after.
+#[tactic(auto, unfolding(crate::specs::Peels::peel_need, rules::specs::Basics::choose))]
 fn peel_need(
     release: &mut [u16; MAX_JOBS],
     waits: &mut [u16; MAX_JOBS],
@@ -131,32 +110,8 @@ fn peel_need(
     count
 }
 
-// The same of the takers in a word, numbered from `first`.
-fn peel_word(
-    release: &mut [u16; MAX_JOBS],
-    waits: &mut [u16; MAX_JOBS],
-    order: &mut [u16; MAX_JOBS],
-    count: usize,
-    first: usize,
-    takers: Set,
-    slot: u16,
-) -> usize
-    requires { (slot < slot_bound) × ((n : ℕ) × Ready n (numbered first takers) (peel_of release.old waits.old order.old count)) }
-    ensures { peel_of release.new waits.new order.new result
-        ≡ peel_all slot (numbered first takers) (peel_of release.old waits.old order.old count) }
-{
-    let mut rest = takers;
-    let mut entered = count;
-    while !rest.is_empty() {
-        let taker = first + rest.lowest() as usize;
-        entered = peel_need(release, waits, order, entered, taker, slot);
-        rest = rest.rest();
-    }
-    entered
-}
-
 // The same of all takers of a job.
-fn peel_row(
+fn peel_takers(
     rows: &[u8],
     jobs: usize,
     release: &mut [u16; MAX_JOBS],
@@ -171,20 +126,9 @@ fn peel_row(
     ensures { peel_of release.new waits.new order.new result
         ≡ peel_all slot (takers_of rows.now jobs job) (peel_of release.old waits.old order.old count) }
 {
-    let last = words(jobs);
     let mut entered = count;
-    let mut w = 0;
-    while w < last {
-        entered = peel_word(
-            release,
-            waits,
-            order,
-            entered,
-            WORD_BITS * w,
-            word(rows, job, w),
-            slot,
-        );
-        w += 1;
+    for taker in needrows::takers(rows, jobs, job) {
+        entered = peel_need(release, waits, order, entered, taker, slot);
     }
     entered
 }
@@ -206,7 +150,7 @@ fn peel_job(
 {
     let slot = behind(release[job]);
     release[job] = slot;
-    peel_row(rows, jobs, release, waits, order, count, job, slot + 1)
+    peel_takers(rows, jobs, release, waits, order, count, job, slot + 1)
 }
 
 // Are the needs free of circles? Then `order` has every job behind its givers, and `release` the release of each.
@@ -223,43 +167,26 @@ pub fn peel(
     let mut waits = [0; MAX_JOBS];
     count_givers(&mut waits, rows, jobs);
     let mut count = first_jobs(&waits, jobs, order);
-    let mut next = 0;
-    while next < count {
-        let job = order[next] as usize;
+    for next in 0..jobs {
+        if next == count {
+            return false;
+        }
+        let job = usize::from(order[next]);
         count = peel_job(rows, jobs, release, &mut waits, order, count, job);
-        next += 1;
     }
-    count == jobs
+    true
 }
 
 // ---- the tails
-
-// The code after the slots behind the takers in a word, numbered from `first`.
-fn raised_by_word(tail: &[u16; MAX_JOBS], first: usize, takers: Set, code: u16) -> u16
-    requires { (k : ℕ) → Memᴰ k (numbered first takers) → (k < max_jobs) × (at tail.now k + 1 < slot_bound) }
-    ensures { result ≡ raised_over (at tail.now) code (numbered first takers) }
-{
-    let mut rest = takers;
-    let mut met = code;
-    while !rest.is_empty() {
-        let taker = first + rest.lowest() as usize;
-        met = raised(met, tail[taker] + 1);
-        rest = rest.rest();
-    }
-    met
-}
 
 // The tail of a job whose takers have theirs: one pass over the takers.
 fn tail_of(rows: &[u8], jobs: usize, tail: &[u16; MAX_JOBS], job: usize) -> u16
     requires { RowsOf rows.now jobs × (job < jobs) × ((k : ℕ) → Memᴰ k (takers_of rows.now jobs job) → at tail.now k + 1 < slot_bound) }
     ensures { result ≡ tail_over rows.now jobs tail.now job }
 {
-    let last = words(jobs);
     let mut code = 0;
-    let mut w = 0;
-    while w < last {
-        code = raised_by_word(tail, WORD_BITS * w, word(rows, job, w), code);
-        w += 1;
+    for taker in needrows::takers(rows, jobs, job) {
+        code = raised(code, tail[taker] + 1);
     }
     behind(code)
 }
@@ -270,10 +197,8 @@ pub fn tails(rows: &[u8], jobs: usize, order: &[u16; MAX_JOBS], tail: &mut [u16;
     ensures { (needs : List Need) → NeedsIn jobs needs → RowsAre rows.now jobs needs
         → (i : ℕ) → i < jobs → at tail.new i ≡ tail_of jobs needs i }
 {
-    let mut next = jobs;
-    while next > 0 {
-        next -= 1;
-        let job = order[next] as usize;
+    for next in (0..jobs).rev() {
+        let job = usize::from(order[next]);
         tail[job] = tail_of(rows, jobs, tail, job);
     }
 }
@@ -284,7 +209,7 @@ pub fn tails(rows: &[u8], jobs: usize, order: &[u16; MAX_JOBS], tail: &mut [u16;
 fn span(release: u16, tail: u16) -> usize
     ensures { result ≡ release + tail + 1 }
 {
-    release as usize + tail as usize + 1
+    usize::from(release) + usize::from(tail) + 1
 }
 
 // The least makespan that leaves every job a slot: the greatest span.
@@ -293,10 +218,8 @@ pub fn least(release: &[u16; MAX_JOBS], tail: &[u16; MAX_JOBS], jobs: usize) -> 
     ensures { result ≡ least_of release.now tail.now jobs }
 {
     let mut most = 0;
-    let mut job = 0;
-    while job < jobs {
-        most = fields::greater(span(release[job], tail[job]), most);
-        job += 1;
+    for job in 0..jobs {
+        most = span(release[job], tail[job]).max(most);
     }
     most
 }

@@ -1,21 +1,22 @@
 -- The answers of the reader of a table. Assumes nothing.
-use Rattle.std.specs.Prelude.{◌≡◌, Bool, true, false, List, ℕ, ◌≤◌, length, T}
+use Rattle.std.specs.Prelude.{◌≡◌, Bool, false, Some, None, List, ℕ, ◌≤◌, length, T}
 use Rattle.std.proofs.Math.Path.{refl, sym}
-use Rattle.std.proofs.Common.{◌∙◌, true≢false}
+use Rattle.std.proofs.Common.{◌∙◌, subst}
 use Rattle.rules.specs.Basics.{at}
 use Rattle.rules.specs.Fields.{refused, got, ask, after}
 use Rattle.rules.specs.Table.{Row, head_ok, decode}
 use Rattle.laws.specs.Lists.{length-tabulate, map-tabulate}
 use Rattle.laws.specs.Fields.{ask-yes}
 use Rattle.laws.specs.Decoded.{row_number, decoded_table}
-use Rattle.rows.specs.Rows.{Few, Decodes}
+use Rattle.rows.specs.Rows.{Few, RowsRead, Decodes}
 use Rattle.rows.specs.RowByRow.{ReadTo, end-rows}
-use Rattle.rows.specs.declared.Rows as code
+
+some-same : {A : Type 0} {a b : A} → Some a ≡ Some b → a ≡ b
+some-same e = cc
 
 -- the reader refuses
-pub refused-read : (bs : List ℕ) (r : code.Rows) (o s b : List ℕ) → r.ok ≡ false → ((few : ℕ → Bool) → Few few → decode few bs ≡ refused 14)
-    → Decodes bs r o s b
-refused-read bs r o s b e h = record { held = λ t. absurd (true≢false (sym t ∙ e)); not-read = λ _. h }
+pub refused-read : (bs : List ℕ) (o s b : List ℕ) → ((few : ℕ → Bool) → Few few → decode few bs ≡ refused 14) → Decodes bs None o s b
+refused-read bs o s b h = record { held = λ rows e. cc; not-read = λ _. h }
 
 pub no-head : (bs : List ℕ) → head_ok bs ≡ false → (few : ℕ → Bool) → Few few → decode few bs ≡ refused 14
 unfolding decode ask
@@ -27,10 +28,10 @@ module _ (bs : List ℕ) (head : T (head_ok bs)) (o s b : List ℕ) (n a : ℕ) 
   unfolding decode decoded_table after
   decoded few = ask-yes (head_ok bs) 14 _ head ∙ rw (end-rows bs o s b n a r end, length-tabulate (row_number bs) n 0) refl
 
-  pub table-read : (sl bo : ℕ) → sl ≡ at bs 4 → bo ≡ at bs 5 → Decodes bs (record { ok = true; slots = sl; boards = bo; count = n }) o s b
+  pub table-read : (sl bo : ℕ) → sl ≡ at bs 4 → bo ≡ at bs 5 → Decodes bs (Some (record { slots = sl; boards = bo; count = n })) o s b
   unfolding decoded_table
   table-read sl bo p q = record {
-    held = λ _. record {
+    held = λ rows e. subst (λ v. RowsRead bs v o s b) (some-same e) record {
       decoded = decoded;
       slots-is = p;
       boards-is = q;
@@ -41,5 +42,5 @@ module _ (bs : List ℕ) (head : T (head_ok bs)) (o s b : List ℕ) (n a : ℕ) 
       starts-are = r.starts-are ∙ sym (map-tabulate (λ (w : Row). w.start) (row_number bs) n 0);
       boards-are = r.boards-are ∙ sym (map-tabulate (λ (w : Row). w.board) (row_number bs) n 0);
     };
-    not-read = λ e. absurd (true≢false e);
+    not-read = λ e. cc;
   }

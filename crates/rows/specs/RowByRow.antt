@@ -1,7 +1,7 @@
 -- The rows of a table, read one after the other: the invariant of the reader, and the table that it ends with. Assumes nothing.
 use Rattle.std.proofs.Math.Path.{◌≡◌, refl, sym, ap, subst}
 use Rattle.std.proofs.Common.{◌∙◌, add-one, length-append, get_or-take, get_or-drop, get_or-set_same, get_or-set_other}
-use Rattle.std.specs.Prelude.{Bool, ◌&&◌, ℕ, suc, ◌+◌, ◌-◌, ◌*◌, ◌≤◌, ◌<◌, length, take, drop, set, T, eqb}
+use Rattle.std.specs.Prelude.{Option, Some, None, Bool, ◌&&◌, ℕ, suc, ◌+◌, ◌-◌, ◌*◌, ◌≤◌, ◌<◌, length, take, drop, set, T, eqb}
 use mathlib.Core.List.{List, [], ◌∷◌, ◌++◌}
 use native.Mathlib.Omega.{arith}
 use Rattle.std.proofs.Math.Decide.{ℕ_discrete}
@@ -18,8 +18,6 @@ use Rattle.laws.specs.Fields.{ask-got, after-got, ask-yes, whole_is, after-head,
 use Rattle.laws.specs.Refusals.{Refusal, decode-number}
 use Rattle.laws.specs.Table.{all_rows}
 use Rattle.laws.specs.Decoded.{is_row, row_number}
-use Rattle.rows.specs.declared.RowAnswer.{RowAnswer}
-use Rattle.rows.specs.declared.RowAnswer.TheVariants as answer
 use Rattle.rows.specs.Rows.{row_answer, Few}
 use Rattle.rows.specs.RowWays.{IsRow, row_is}
 
@@ -32,19 +30,19 @@ value-byte bs a i h t = get_or-take (field_end bs a - (a + 3)) (drop (a + 3) bs)
 
 module _ (bs : List ℕ) (a : ℕ) where
   -- what the answer of the row reader says
-  unfoldable Says : RowAnswer → Type 0
-  Says (answer.Row e) = T (is_row bs a) × (e ≡ field_end bs a)
-  Says answer.Refused = T (is_row bs a) → ⊥
+  unfoldable Says : Option ℕ → Type 0
+  Says (Some e) = T (is_row bs a) × (e ≡ field_end bs a)
+  Says None = T (is_row bs a) → ⊥
 
   says : Says (row_answer bs a)
   unfolding row_answer Says
   says = by-choice Says (is_row bs a) (λ t. (t, refl)) (λ n. n)
 
-  row-said : (e : ℕ) → row_answer bs a ≡ answer.Row e → T (is_row bs a) × (e ≡ field_end bs a)
+  row-said : (e : ℕ) → row_answer bs a ≡ Some e → T (is_row bs a) × (e ≡ field_end bs a)
   unfolding Says
   row-said e q = subst Says q says
 
-  row-refused : row_answer bs a ≡ answer.Refused → T (is_row bs a) → ⊥
+  row-refused : row_answer bs a ≡ None → T (is_row bs a) → ⊥
   unfolding Says
   row-refused q = subst Says q says
 
@@ -107,7 +105,7 @@ module _ (bs : List ℕ) (o s b : List ℕ) (n a : ℕ) (r : ReadTo bs o s b n a
         × (all_rows bs ≡ after (read_row bs (tabulate (row_number bs) n 0) a) (λ t. over_fields (read_row bs) j bs (field_end bs a) t))
     split = let p = over_fields-step (read_row bs) r.room bs a (tabulate (row_number bs) n 0) h r.enough in (p.0, p.1, sym r.to-come ∙ p.2)
 
-    pub refuses : row_answer bs a ≡ answer.Refused → (few : ℕ → Bool) → Few few → decode few bs ≡ refused 14
+    pub refuses : row_answer bs a ≡ None → (few : ℕ → Bool) → Few few → decode few bs ≡ refused 14
     unfolding after ask read_row is_row
     refuses no_row = not-decoded bs (λ rows e. absurd (let z : ◌≡◌ {A = ℕ} 0 1 = cc (sym e ∙ bad) in omega arith))
       where
@@ -133,7 +131,7 @@ module _ (bs : List ℕ) (o s b : List ℕ) (n a : ℕ) (r : ReadTo bs o s b n a
             over_fields-keeps (read_row bs) (λ u. max_jobs < length u) (λ u v c l e. longer u v c (omega arith) e) split.0 bs (field_end bs a) w.0 rows
             (longer before w.0 a (omega (arith, length-tabulate (row_number bs) n 0)) w.1) w.2
 
-    module _ (e : ℕ) (found : row_answer bs a ≡ answer.Row e) (not_full : n ≡ max_jobs → ⊥) where
+    module _ (e : ℕ) (found : row_answer bs a ≡ Some e) (not_full : n ≡ max_jobs → ⊥) where
       is-row : T (is_row bs a)
       is-row = (row-said bs a e found).0
 

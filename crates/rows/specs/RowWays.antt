@@ -1,5 +1,5 @@
 -- The ways out of the readers of the head and of a row, by what they have tested. Assumes nothing.
-use Rattle.std.specs.Prelude.{◌≡◌, ◌↔◌, Bool, true, false, ◌&&◌, List, ℕ, ◌+◌, ◌-◌, ◌≤◌, ◌<◌, take, drop, T, leb, eqb}
+use Rattle.std.specs.Prelude.{◌≡◌, ◌↔◌, Some, None, Bool, true, false, ◌&&◌, List, ℕ, ◌+◌, ◌-◌, ◌≤◌, ◌<◌, take, drop, T, leb, eqb}
 use Rattle.std.proofs.Math.Path.{sym, ap}
 use Rattle.std.proofs.Common.{◌∙◌, arith, length-drop, drop-drop}
 use borrow.Author.Tests.{eq-eqb, ne_eqb}
@@ -12,7 +12,6 @@ use Rattle.laws.specs.Lists.{take_rest}
 use Rattle.laws.specs.Tests.{T_and, T-leb, T-eqb, T_true, choose_yes, choose_no}
 use Rattle.laws.specs.Fields.{whole_is, after-head, length-value}
 use Rattle.laws.specs.Decoded.{is_row}
-use Rattle.rows.specs.declared.RowAnswer.TheVariants.{Row, Refused}
 use Rattle.rows.specs.Rows.{row_answer}
 
 -- ---- the head
@@ -93,29 +92,29 @@ row_is bs a = (
 )
 
 module _ (bs : List ℕ) (a : ℕ) where
-  no_row : (IsRow bs a → ⊥) → Refused ≡ row_answer bs a
+  no_row : (IsRow bs a → ⊥) → None ≡ row_answer bs a
   unfolding row_answer
   no_row n = sym (choose_no (is_row bs a) _ _ (λ t. n ((row_is bs a).0 t)))
 
-  pub row-not-whole : whole bs a ≡ false → Refused ≡ row_answer bs a
+  pub row-not-whole : whole bs a ≡ false → None ≡ row_answer bs a
   row-not-whole e = no_row (λ r. rw e at r.is_whole)
 
-  pub other_tag : (at bs a ≡ 17 → ⊥) → Refused ≡ row_answer bs a
+  pub other_tag : (at bs a ≡ 17 → ⊥) → None ≡ row_answer bs a
   other_tag n = no_row (λ r. n r.tag)
 
   -- v is the row's value
   module _ (v : List ℕ) (v-is : v ≡ value bs a) where
-    pub row-short : length v < 5 → Refused ≡ row_answer bs a
+    pub row-short : length v < 5 → None ≡ row_answer bs a
     row-short l = no_row (λ r. omega (arith, ap length v-is, r.sizes))
 
-    pub row-long : 16 < length v → Refused ≡ row_answer bs a
+    pub row-long : 16 < length v → None ≡ row_answer bs a
     row-long l = no_row (λ r. omega (arith, ap length v-is, r.sizes))
 
     -- its name, behind the level
     name-part : drop 2 (take (length v - 2) (drop 2 v)) ≡ drop 4 (value bs a)
     name-part = ap (drop 2) (take_rest 2 v) ∙ drop-drop 2 2 v ∙ ap (drop 4) v-is
 
-    pub bad-name : all name_byte (drop 2 (take (length v - 2) (drop 2 v))) ≡ false → Refused ≡ row_answer bs a
+    pub bad-name : all name_byte (drop 2 (take (length v - 2) (drop 2 v))) ≡ false → None ≡ row_answer bs a
     bad-name e = no_row (λ r. rw (sym (ap (all name_byte) name-part) ∙ e) at r.name)
 
     module _ (w : whole bs a ≡ true) where
@@ -123,12 +122,12 @@ module _ (bs : List ℕ) (a : ℕ) where
       row_ends = let t = (T_true (whole bs a)).1 w in omega (arith, ap length v-is, length-value bs a t, (whole_is bs a).0 t, after-head bs a)
 
       pub row-found : at bs a ≡ 17 → 5 ≤ length v → length v ≤ 16 → all name_byte (drop 2 (take (length v - 2) (drop 2 v))) ≡ true
-          → Row (a + 3 + length v) ≡ row_answer bs a
+          → Some (a + 3 + length v) ≡ row_answer bs a
       unfolding row_answer
       row-found t l m e =
           let h = (T_true (whole bs a)).1 w in
-          ap Row (omega (arith, ap length v-is, length-value bs a h, after-head bs a))
-          ∙ sym (choose_yes (is_row bs a) (Row (field_end bs a)) Refused
+          ap Some (omega (arith, ap length v-is, length-value bs a h, after-head bs a))
+          ∙ sym (choose_yes (is_row bs a) (Some (field_end bs a)) None
           ((row_is bs a).1 record {
             is_whole = h;
             tag = t;

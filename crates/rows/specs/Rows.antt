@@ -1,17 +1,15 @@
 -- The rows of a table: what the reader of question 14 gives. Assumes nothing.
-use Rattle.std.specs.Prelude.{◌≡◌, Bool, true, false, List, ℕ, ◌≤◌, ◌<◌, length, take, T}
+use Rattle.std.specs.Prelude.{◌≡◌, Bool, Option, Some, None, List, ℕ, ◌≤◌, ◌<◌, length, take, T}
 use Rattle.rules.specs.Sizes.{max_jobs}
 use Rattle.rules.specs.Basics.{choose, at}
 use Rattle.rules.specs.Fields.{refused, got, ask, field_end}
 use Rattle.rules.specs.Table.{starts, boards_of, decode, row_start}
 use Rattle.laws.specs.Decoded.{is_row, decoded_table}
-use Rattle.rows.specs.declared.RowAnswer.{RowAnswer}
-use Rattle.rows.specs.declared.RowAnswer.TheVariants as answer
 use Rattle.rows.specs.declared.Rows as code
 
 -- the end of the row at offset a, if one stands there
-unfoldable pub row_answer : List ℕ → ℕ → RowAnswer
-row_answer bs a = choose (is_row bs a) (answer.Row (field_end bs a)) answer.Refused
+unfoldable pub row_answer : List ℕ → ℕ → Option ℕ
+row_answer bs a = choose (is_row bs a) (Some (field_end bs a)) None
 
 -- no more rows than there can be jobs
 abbrev pub Few : (ℕ → Bool) → Type 0
@@ -29,7 +27,7 @@ pub record RowsRead (bs : List ℕ) (r : code.Rows) (offset start board : List �
   pub starts-are : take r.count start ≡ starts (decoded_table bs r.count)
   pub boards-are : take r.count board ≡ boards_of (decoded_table bs r.count)
 
--- the reader says ok of a table of at most 400 rows alone
-pub record Decodes (bs : List ℕ) (r : code.Rows) (offset start board : List ℕ) : Type 0 where
-  pub held : r.ok ≡ true → RowsRead bs r offset start board
-  pub not-read : r.ok ≡ false → (few : ℕ → Bool) → Few few → decode few bs ≡ refused 14
+-- the reader gives the rows of a table of at most 400 rows alone
+pub record Decodes (bs : List ℕ) (r : Option code.Rows) (offset start board : List ℕ) : Type 0 where
+  pub held : (rows : code.Rows) → r ≡ Some rows → RowsRead bs rows offset start board
+  pub not-read : r ≡ None → (few : ℕ → Bool) → Few few → decode few bs ≡ refused 14

@@ -40,7 +40,7 @@ every-place p h = (T_true (member every_place p)).0 ((T-all (member every_place)
 abbrev pub free_in : Set → Set
 free_in S = minus every_place S
 
-free-bits : (S : Set) → (free_in S).bits < 2 ^ 64
+pub free-bits : (S : Set) → (free_in S).bits < 2 ^ 64
 free-bits S = omega (arith, minus-le every_place S)
 
 -- a place that is not left is one of S

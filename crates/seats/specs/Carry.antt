@@ -83,7 +83,8 @@ pub record Carried (n : ℕ) (words : List ℕ) (b s : ℕ) (after : List ℕ) :
   pub small : Small n after
   pub held : set_at after (held_at + s) ≡ carried_held words b s
   pub mark : at after (marks_at + s + 1) ≡ next_mark words b s
-  pub prev : (p : ℕ) → p < max_width → set_at after (prev_at + max_width * s + p) ≡ minus (set_at words (prev_at + max_width * b + p)) (set_at words (ends_at + b))
+  pub prev : (p : ℕ) → p < max_width
+      → set_at after (prev_at + max_width * s + p) ≡ minus (set_at words (prev_at + max_width * b + p)) (set_at words (ends_at + b))
   pub who : (p : ℕ) → p < max_width → at after (who_at + max_width * s + p) ≡ at words (who_at + max_width * b + p)
   pub other : (k : ℕ) → ¬ (k ≡ held_at + s) → ¬ (k ≡ marks_at + s + 1) → ((p : ℕ) → p < max_width → ¬ (k ≡ prev_at + max_width * s + p)) →
       ((p : ℕ) → p < max_width → ¬ (k ≡ who_at + max_width * s + p)) → at after k ≡ at words k

@@ -31,7 +31,8 @@ without-small n words (suc k) h s = small-set n (without_due words k) (due_at + 
 without_other : (words : List ℕ) (k j : ℕ) → ((t : ℕ) → t < k → ¬ (j ≡ due_at + t)) → at (without_due words k) j ≡ at words j
 unfolding without_due
 without_other words zero j n = refl
-without_other words (suc k) j n = get_or-set_other (without_due words k) (due_at + k) j 0 0 (n k (omega arith)) ∙ without_other words k j (λ t l. n t (omega arith))
+without_other words (suc k) j n = get_or-set_other (without_due words k) (due_at + k) j 0 0 (n k (omega arith))
+    ∙ without_other words k j (λ t l. n t (omega arith))
 
 without-zero : (n : ℕ) (words : List ℕ) (k t : ℕ) → Small n words → k ≤ max_limit + 1 → t < k → at (without_due words k) (due_at + t) ≡ 0
 unfolding without_due
@@ -107,7 +108,8 @@ unfolding due_sets
 due-sets n slots jobs places tail words h low s = record {
   small = with-small slots places tail h n (without_due words (slots + 1)) jobs low clear;
   other = λ k f. with-other slots places tail h (without_due words (slots + 1)) jobs k f ∙ without_other words (slots + 1) k (λ t l. f t (omega arith));
-  due = λ t l. with-is slots places tail h n (without_due words (slots + 1)) jobs t low clear (without-zero n words (slots + 1) t s (omega arith) (omega arith));
+  due = λ t l. with-is slots places tail h n (without_due words (slots + 1)) jobs t low clear
+      (without-zero n words (slots + 1) t s (omega arith) (omega arith));
 }
   where
     clear : Small n (without_due words (slots + 1))

@@ -1,5 +1,5 @@
 -- The jobs enter slot by slot: what `enter` and `seat_all` ask and give. Assumes nothing.
-use Rattle.std.specs.Prelude.{◌≡◌, refl, Bool, true, false, ◌↔◌, ℕ, zero, suc, ◌+◌, ◌≤◌, ◌<◌, min, length, set, replicate}
+use Rattle.std.specs.Prelude.{◌≡◌, refl, Option, MatchOption, ℕ, zero, suc, ◌+◌, ◌≤◌, ◌<◌, min, length, set, replicate}
 use Rattle.std.proofs.Common.{◌∙◌, arith, length-set, get_or-set_same, get_or-set_other}
 use mathlib.Core.List.Memᴰ
 use mathlib.Core.List.{List, [], ◌∷◌, ◌++◌, append-nil, Memᴰ}
@@ -34,10 +34,9 @@ pub record Enters (W : Windows) (rows release tail next : List ℕ) (jobs limit 
   pub chain : Linked next first (entrants W slot)
   pub state : Entered W (suc slot) (entering W slot) words places givers
 
--- what it gives
-pub record EntersAll (W : Windows) (slot : ℕ) (r : Bool) (words places givers : List ℕ) : Type 0 where
-  pub yes-all : r ≡ true → Entered W (suc slot) (entering W (suc slot)) words places givers
-  pub none : r ≡ false → ¬ (HasPlaces W)
+-- what it gives: the jobs of the slot have entered too; none where places run out
+abbrev pub EntersAll : {A : Type 0} → Windows → ℕ → Option A → List ℕ → List ℕ → List ℕ → Type 0
+EntersAll W slot r words places givers = MatchOption r (¬ (HasPlaces W)) (λ _. Entered W (suc slot) (entering W (suc slot)) words places givers)
 
 pub mid_start : {W : Windows} {rows release tail next : List ℕ} {jobs limit first slot : ℕ} {words places givers : List ℕ}
     → Enters W rows release tail next jobs limit first slot words places givers
@@ -152,34 +151,30 @@ slots-are {W} {release = release} {jobs = jobs} {limit = limit} G n_pos l-pos = 
 
 -- ---- all slots
 
--- what `seat_all` gives: the number of slots of the tables, 0 where places run out
-pub record SeatedAll (W : Windows) (limit r : ℕ) (words places : List ℕ) : Type 0 where
+-- every job with a window has its place, in tables of r slots
+pub record SeatedIn (W : Windows) (limit r : ℕ) (words places : List ℕ) : Type 0 where
   pub few : r ≤ limit
   pub within : r ≤ slots_of W
-  pub enough : (0 < r) ↔ HasPlaces W
-  pub filled : 0 < r → Filled W r words
-  pub places-len : 0 < r → length places ≡ max_jobs
-  pub places-are : 0 < r → (i : ℕ) → i < W.n → W.r i < W.d i → at places i ≡ place_of W i
+  pub some : 1 ≤ r
+  pub enough : HasPlaces W
+  pub filled : Filled W r words
+  pub places-len : length places ≡ max_jobs
+  pub places-are : (i : ℕ) → i < W.n → W.r i < W.d i → at places i ≡ place_of W i
 
-pub seated-none : {W : Windows} {limit : ℕ} {words places : List ℕ} → ¬ (HasPlaces W) → SeatedAll W limit 0 words places
-seated-none n = record {
-  few = omega arith;
-  within = omega arith;
-  enough = (λ h. absurd (omega arith), λ f. absurd (n f));
-  filled = λ h. absurd (omega arith);
-  places-len = λ h. absurd (omega arith);
-  places-are = λ h. absurd (omega arith);
-}
+-- what `seat_all` gives: the number of slots of the tables; none where places run out
+abbrev pub SeatedAll : Windows → ℕ → Option ℕ → List ℕ → List ℕ → Type 0
+SeatedAll W limit r words places = MatchOption r (¬ (HasPlaces W)) (λ slots. SeatedIn W limit slots words places)
 
 pub seated-all : {W : Windows} {limit r : ℕ} {words places givers : List ℕ} → Leads W → Slots W limit r → Entered W r (entering W r) words places givers
-    → SeatedAll W limit r words places
+    → SeatedIn W limit r words places
 seated-all {W} {r = r} {words = words} D S E = record {
   few = S.few;
   within = S.within;
-  enough = (λ h. filled-places full, λ f. S.some);
-  filled = λ h. full;
-  places-len = λ h. E.places-len;
-  places-are = λ h i l o. E.places-are i ((in-entering W r i).1 (l, S.all i l o)) o;
+  some = S.some;
+  enough = filled-places full;
+  filled = full;
+  places-len = E.places-len;
+  places-are = λ i l o. E.places-are i ((in-entering W r i).1 (l, S.all i l o)) o;
 }
   where
     R : Rest W r

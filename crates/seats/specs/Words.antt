@@ -34,8 +34,8 @@ pub record Small (n : ℕ) (words : List ℕ) : Type 0 where
   pub jobs : (k : ℕ) → who_at ≤ k → k < slots_at → at words k < n
   pub threes : ThreesIn words
 
-pub small-set : (n : ℕ) (words : List ℕ) (k v : ℕ) → Small n words → k < three_at → (k < marks_at → v < place_sets) → (prev_at ≤ k → k < who_at → v < place_sets) →
-    (who_at ≤ k → k < slots_at → v < n) → Small n (set words k v)
+pub small-set : (n : ℕ) (words : List ℕ) (k v : ℕ) → Small n words → k < three_at → (k < marks_at → v < place_sets)
+    → (prev_at ≤ k → k < who_at → v < place_sets) → (who_at ≤ k → k < slots_at → v < n) → Small n (set words k v)
 small-set n words k v s t a b c = record {
   len = length-set words k v ∙ s.len;
   sets = λ j h. at_set (λ x. x < place_sets) words k v j (λ e. a (omega arith)) (s.sets j h);
@@ -139,7 +139,13 @@ seated-is n words slot job p last givers s a b c d e = record {
   prev = past4 (prev_at + max_width * slot + p) (λ z. omega arith) ∙ get_or-set_same two (prev_at + max_width * slot + p) givers 0
       (omega (arith, s.len, length-place words (held_at + slot) p, length-place one (ends_at + last) p));
   who = get_or-set_same three (who_at + max_width * slot + p) job 0
-      (omega (arith, s.len, length-place words (held_at + slot) p, length-place one (ends_at + last) p, length-set two (prev_at + max_width * slot + p) givers));
+      (omega (
+        arith,
+        s.len,
+        length-place words (held_at + slot) p,
+        length-place one (ends_at + last) p,
+        length-set two (prev_at + max_width * slot + p) givers,
+      ));
   other = λ k h l m r. past4 k r ∙ past3 k m ∙ past2 k l ∙ past1 k h;
 }
   where

@@ -6,11 +6,10 @@
 // A deadline, `last`, is the slot right behind a window. The tables are those of crate layout.
 #![tactic(auto)]
 
-ghost use Rattle.std.specs.Prelude.{true, ◌≡◌, ℕ, ◌+◌, ◌-◌, ◌*◌, ◌<◌, ◌≤◌, min, length, replicate};
-ghost use mathlib.Core.List.{map, Memᴰ};
+ghost use Rattle.std.specs.Prelude.{◌≡◌, ℕ, ◌+◌, ◌-◌, ◌*◌, ◌<◌, ◌≤◌, min, length, replicate, MatchOption};
+ghost use mathlib.Core.List.{Memᴰ};
 ghost use Rattle.rules.specs.Sizes.{max_width, max_limit, max_jobs};
 ghost use Rattle.rules.specs.Basics.{at, most};
-ghost use Rattle.jobset.specs.Sets.{members};
 ghost use Rattle.needrows.specs.Rows.{takers_of, row_bytes};
 ghost use Rattle.layout.specs.Layout.{marks_at, prev_at, table_words, place_sets, marks_room};
 ghost use Rattle.places.specs.Windows.{Windows};
@@ -25,7 +24,6 @@ ghost use Rattle.seats.specs.Slots.{Enters, EntersAll, SeatedAll};
 
 use jobset::Set;
 use layout::{DUE, ENDS, HELD, MARKS, PREV, SLOTS, TABLES, THREE, WHO, set_at};
-use needrows::{WORD_BITS, word, words};
 use sizes::{MAX_JOBS, MAX_SLOTS, PLACE_SETS, PLACES};
 
 // All places of a slot.
@@ -41,37 +39,7 @@ fn add_place(tables: &mut [u16; TABLES], i: usize, place: usize)
     tables[i] = after.bits as u16;
 }
 
-// The deadline of a job with this tail; 0 where no slot is left.
-fn deadline(limit: usize, tail: u16) -> usize
-    ensures { result ≡ limit - tail }
-{
-    let behind = tail as usize;
-    if behind < limit {
-        return limit - behind;
-    }
-    0
-}
-
 // ---- jobs by release
-
-// The jobs of each release below the limit, linked in rising number: `first` has the first of each release, `next` the one behind each job.
-fn link(
-    release: &[u16; MAX_JOBS],
-    jobs: usize,
-    limit: usize,
-    first: &mut [u16; MAX_SLOTS],
-    next: &mut [u16; MAX_JOBS],
-)
-    requires { (jobs ≤ max_jobs) × (limit ≤ max_limit) × (first.old ≡ replicate max_limit 0) × (length next.old ≡ max_jobs) }
-    ensures { LinkedAll release.now limit first.new next.new jobs 0 }
-{
-    let mut number = jobs;
-    while number > 0 {
-        let job = number - 1;
-        link_job(fields::index(release[job]), limit, job, first, next);
-        number = job;
-    }
-}
 
 // The job comes before all others of its release.
 fn link_job(
@@ -93,26 +61,6 @@ fn link_job(
 
 // ---- a job takes a place
 
-// The place goes to the takers in a word, numbered from `first`, that enter while the giver's window or the slot behind it is open.
-fn give_word(
-    givers: &mut [u8; MAX_JOBS],
-    release: &[u16; MAX_JOBS],
-    first: usize,
-    takers: Set,
-    place: usize,
-    last: usize,
-)
-    requires { ((j : ℕ) → Memᴰ j (members takers) → first + j < max_jobs) × (place < max_width) }
-    ensures { givers.new ≡ give_each release.now place last (map (first +◌) (members takers)) givers.old }
-{
-    let mut rest = takers;
-    while !rest.is_empty() {
-        let taker = first + rest.lowest() as usize;
-        give(givers, fields::index(release[taker]), taker, place, last);
-        rest = rest.rest();
-    }
-}
-
 // One taker: it enters at its release.
 fn give(givers: &mut [u8; MAX_JOBS], entry: usize, taker: usize, place: usize, last: usize)
     requires { (taker < max_jobs) × (place < max_width) }
@@ -122,34 +70,6 @@ fn give(givers: &mut [u8; MAX_JOBS], entry: usize, taker: usize, place: usize, l
         let before = Set::of_byte(givers[taker]);
         let after = before.with(place);
         givers[taker] = after.bits as u8;
-    }
-}
-
-// All takers of a giver with this place and deadline.
-fn give_row(
-    rows: &[u8],
-    jobs: usize,
-    giver: usize,
-    givers: &mut [u8; MAX_JOBS],
-    release: &[u16; MAX_JOBS],
-    place: usize,
-    last: usize,
-)
-    requires { (jobs ≤ max_jobs) × (giver < jobs) × (row_bytes * jobs ≤ length rows.now)
-        × ((k : ℕ) → Memᴰ k (takers_of rows.now jobs giver) → k < jobs) × (place < max_width) }
-    ensures { givers.new ≡ give_each release.now place last (takers_of rows.now jobs giver) givers.old }
-{
-    let mut w = 0;
-    while w < words(jobs) {
-        give_word(
-            givers,
-            release,
-            WORD_BITS * w,
-            word(rows, giver, w),
-            place,
-            last,
-        );
-        w += 1;
     }
 }
 
@@ -164,43 +84,11 @@ fn seat(tables: &mut [u16; TABLES], slot: usize, job: usize, place: usize, last:
     tables[WHO + PLACES * slot + place] = job as u16;
 }
 
-// The jobs that enter a slot take their places, from the first of them on; no where the places run out.
-fn enter(
-    rows: &[u8],
-    jobs: usize,
-    release: &[u16; MAX_JOBS],
-    tail: &[u16; MAX_JOBS],
-    limit: usize,
-    next: &[u16; MAX_JOBS],
-    first: u16,
-    slot: usize,
-    places: &mut [u8; MAX_JOBS],
-    givers: &mut [u8; MAX_JOBS],
-    tables: &mut [u16; TABLES],
-) -> bool
-    requires { (W : Windows) × Enters W rows.now release.now tail.now next.now jobs limit first slot tables.old places.old givers.old }
-    ensures { (W : Windows)
-        → Enters W rows.now release.now tail.now next.now jobs limit first slot
-        tables.old places.old givers.old
-        → EntersAll W slot result tables.new places.new givers.new }
+// The job that a link leads to; none where it leads to no job. A link is a number, and no Option<u16>, which would take twice its memory.
+fn linked(link: u16) -> Option<usize>
+    ensures { MatchOption result (link ≡ 0) (λ job. link ≡ job + 1) }
 {
-    let mut number = fields::index(first);
-    while number != 0 {
-        let job = number - 1;
-        number = fields::index(next[job]);
-        let last = deadline(limit, tail[job]);
-        if slot < last {
-            let free = EVERY_PLACE.minus(set_at(tables, HELD + slot));
-            if free.is_empty() {
-                return false;
-            }
-            let place = free.lowest() as usize;
-            places[job] = place as u8;
-            seat(tables, slot, job, place, last, givers[job]);
-            give_row(rows, jobs, job, givers, release, place, last);
-        }
-    }
-    true
+    usize::from(link).checked_sub(1)
 }
 
 // ---- slot by slot
@@ -213,17 +101,14 @@ fn stay(tables: &mut [u16; TABLES], slot: usize)
     let ended = set_at(tables, ENDS + (slot - 1));
     let from = PLACES * (slot - 1);
     let to = PLACES * slot;
-    let mut p = 0;
-    while p < PLACES {
+    for p in 0..PLACES {
         let givers = set_at(tables, PREV + from + p);
         let left = givers.minus(ended);
         tables[PREV + to + p] = left.bits as u16;
-        p += 1;
     }
-    let mut q = 0;
-    while q < PLACES {
+    // No copy_within: the archive for C may need memcpy and memset alone, and copy_within needs memmove.
+    for q in 0..PLACES {
         tables[WHO + to + q] = tables[WHO + from + q];
-        q += 1;
     }
 }
 
@@ -235,8 +120,8 @@ fn carry(tables: &mut [u16; TABLES], slot: usize)
 {
     let before = set_at(tables, HELD + (slot - 1));
     let held = before.minus(set_at(tables, ENDS + slot));
-    let size = fields::index(tables[THREE + before.bits as usize]) / 4 + 1;
-    let mark = fields::index(tables[MARKS + slot]) + size;
+    let size = usize::from(tables[THREE + before.bits as usize]) / 4 + 1;
+    let mark = usize::from(tables[MARKS + slot]) + size;
     tables[HELD + slot] = held.bits as u16;
     tables[MARKS + slot + 1] = mark as u16;
     stay(tables, slot);
@@ -247,36 +132,103 @@ fn entries(release: &[u16; MAX_JOBS], jobs: usize, limit: usize) -> usize
     requires { jobs ≤ max_jobs }
     ensures { result ≡ most (λ i. min (at release.now i + 1) limit) jobs }
 {
-    let mut slots = 0;
-    let mut job = 0;
-    while job < jobs {
-        slots = fields::greater(slots, behind(release[job], limit));
-        job += 1;
-    }
-    slots
+    release[..jobs]
+        .iter()
+        .map(|entry| behind(*entry, limit))
+        .max()
+        .unwrap_or(0)
 }
 
 // One more than a release, at most the limit.
 fn behind(release: u16, limit: usize) -> usize
     ensures { result ≡ min (release + 1) limit }
 {
-    let slot = release as usize;
-    if slot < limit { slot + 1 } else { limit }
+    (usize::from(release) + 1).min(limit)
 }
 
 // The table of base-three numbers, once for all states: a constant array is laid down anew wherever it is read.
 fn put_threes(tables: &mut [u16; TABLES])
     ensures { tables.new ≡ with_threes tables.old }
 {
-    let entries = threes::THREES;
-    let mut byte = 0;
-    while byte < PLACE_SETS {
-        tables[THREE + byte] = entries[byte];
-        byte += 1;
+    tables[THREE..THREE + PLACE_SETS].copy_from_slice(&threes::THREES);
+}
+
+// The jobs that take places: the rows of their needs, how many they are, their releases and tails, and the limit of the slots.
+#[derive(Clone, Copy)]
+struct Jobs<'a> {
+    pub rows: &'a [u8],
+    pub count: usize,
+    pub release: &'a [u16; MAX_JOBS],
+    pub tail: &'a [u16; MAX_JOBS],
+    pub limit: usize,
+}
+
+impl Jobs<'_> {
+    // The deadline of a job; 0 where no slot is left.
+    fn deadline(self, job: usize) -> usize
+        requires { job < max_jobs }
+        ensures { result ≡ self.entry.limit - at self.entry.tail.now job }
+    {
+        self.limit.saturating_sub(usize::from(self.tail[job]))
+    }
+
+    // The jobs of each release below the limit, linked in rising number: `first` has the first of each release, `next` the one behind each job.
+    fn link(self, first: &mut [u16; MAX_SLOTS], next: &mut [u16; MAX_JOBS])
+        requires { (self.count ≤ max_jobs) × (self.limit ≤ max_limit) × (first.old ≡ replicate max_limit 0) × (length next.old ≡ max_jobs) }
+        ensures { LinkedAll self.entry.release.now self.entry.limit first.new next.new self.entry.count 0 }
+    {
+        for job in (0..self.count).rev() {
+            link_job(usize::from(self.release[job]), self.limit, job, first, next);
+        }
+    }
+
+    // The place goes to all takers of a giver with this deadline that enter while its window or the slot behind it is open.
+    fn give_row(self, giver: usize, givers: &mut [u8; MAX_JOBS], place: usize, last: usize)
+        requires { (self.count ≤ max_jobs) × (giver < self.count) × (row_bytes * self.count ≤ length self.rows.now)
+            × ((k : ℕ) → Memᴰ k (takers_of self.rows.now self.count giver) → k < self.count) × (place < max_width) }
+        ensures { givers.new ≡ give_each self.entry.release.now place last
+            (takers_of self.entry.rows.now self.entry.count giver) givers.old }
+    {
+        for taker in needrows::takers(self.rows, self.count, giver) {
+            give(givers, usize::from(self.release[taker]), taker, place, last);
+        }
+    }
+
+    // The jobs that enter a slot take their places, from the first of them on; none where the places run out.
+    fn enter(
+        self,
+        next: &[u16; MAX_JOBS],
+        first: u16,
+        slot: usize,
+        places: &mut [u8; MAX_JOBS],
+        givers: &mut [u8; MAX_JOBS],
+        tables: &mut [u16; TABLES],
+    ) -> Option<()>
+        requires { (W : Windows) × Enters W self.rows.now self.release.now self.tail.now next.now self.count self.limit first slot
+            tables.old places.old givers.old }
+        ensures { (W : Windows)
+            → Enters W self.entry.rows.now self.entry.release.now self.entry.tail.now next.now self.entry.count self.entry.limit first slot
+            tables.old places.old givers.old
+            → EntersAll W slot result tables.new places.new givers.new }
+    {
+        let mut link = first;
+        // No `for`: each job's link says which comes next.
+        while let Some(job) = linked(link) {
+            link = next[job];
+            let last = self.deadline(job);
+            if slot < last {
+                let free = EVERY_PLACE.minus(set_at(tables, HELD + slot));
+                let (place, _) = free.split_first()?;
+                places[job] = place as u8;
+                seat(tables, slot, job, place, last, givers[job]);
+                self.give_row(job, givers, place, last);
+            }
+        }
+        Some(())
     }
 }
 
-// Every job whose window holds a slot takes its place: gives the slots that the tables then have, those in which jobs enter; 0
+// Every job whose window holds a slot takes its place: gives the slots that the tables then have, those in which jobs enter; none
 // where places run out (question 12). The tables and the places are zeros before.
 pub fn seat_all(
     rows: &[u8],
@@ -286,7 +238,7 @@ pub fn seat_all(
     limit: usize,
     places: &mut [u8; MAX_JOBS],
     tables: &mut [u16; TABLES],
-) -> usize
+) -> Option<usize>
     requires { (1 ≤ jobs) × (1 ≤ limit) × (places.old ≡ replicate max_jobs 0) × (tables.old ≡ replicate table_words 0)
         × ((W : Windows) × Given W rows.now release.now tail.now jobs limit) }
     ensures { (W : Windows) → Given W rows.now release.now tail.now jobs limit
@@ -294,32 +246,25 @@ pub fn seat_all(
 {
     let mut first = [0; MAX_SLOTS];
     let mut next = [0; MAX_JOBS];
-    link(release, jobs, limit, &mut first, &mut next);
-    let mut givers = [0; MAX_JOBS];
     let slots = entries(release, jobs, limit);
-    tables[MARKS + 1] = 1;
-    put_threes(tables);
-    let mut slot = 0;
-    while enter(
+    let jobs = Jobs {
         rows,
-        jobs,
+        count: jobs,
         release,
         tail,
         limit,
-        &next,
-        first[slot],
-        slot,
-        places,
-        &mut givers,
-        tables,
-    ) {
-        slot += 1;
-        if slots <= slot {
-            return slots;
+    };
+    jobs.link(&mut first, &mut next);
+    let mut givers = [0; MAX_JOBS];
+    tables[MARKS + 1] = 1;
+    put_threes(tables);
+    for slot in 0..slots {
+        jobs.enter(&next, first[slot], slot, places, &mut givers, tables)?;
+        if slot + 1 < slots {
+            carry(tables, slot + 1);
         }
-        carry(tables, slot);
     }
-    0
+    Some(slots)
 }
 
 // ---- one length
@@ -329,11 +274,7 @@ fn clear_due(tables: &mut [u16; TABLES], slots: usize)
     requires { slots ≤ max_limit }
     ensures { tables.new ≡ without_due tables.old (slots + 1) }
 {
-    let mut slot = 0;
-    while slot <= slots {
-        tables[DUE + slot] = 0;
-        slot += 1;
-    }
+    tables[DUE..DUE + slots + 1].fill(0);
 }
 
 // Each job is due when the slots of its tail are left.
@@ -348,14 +289,12 @@ fn set_due(
         × ((n : ℕ) × Small n tables.old) }
     ensures { tables.new ≡ with_due slots places.now tail.now jobs tables.old }
 {
-    let mut job = 0;
-    while job < jobs {
+    for (place, behind) in places[..jobs].iter().zip(tail) {
         add_place(
             tables,
-            DUE + (slots - fields::index(tail[job])),
-            fields::wide(places[job]),
+            DUE + (slots - usize::from(*behind)),
+            usize::from(*place),
         );
-        job += 1;
     }
 }
 
@@ -372,10 +311,8 @@ pub fn fit(
     ensures { (W : Windows) → Fitting W filled slots jobs tables.old places.now tail.now
         → Fitted W slots tables.old tables.new }
 {
-    let mut slot = filled;
-    while slot < slots {
+    for slot in filled..slots {
         carry(tables, slot);
-        slot += 1;
     }
     clear_due(tables, slots);
     set_due(tables, slots, jobs, places, tail);

@@ -81,7 +81,8 @@ module _ {n : ℕ} {words path : List ℕ} {count : ℕ} (P : Plan n words path 
 
     -- with one it has the giver that the lowest of them has, in the slot before
     pub a-giver : is_empty (near_to words path s p) ≡ false
-        → Gives needs (giver_at (tables_in words) s (last_of path s) p) ((tables_in words).who s p) × (at t (giver_at (tables_in words) s (last_of path s) p) + 1 ≡ s)
+        → Gives needs (giver_at (tables_in words) s (last_of path s) p) ((tables_in words).who s p)
+        × (at t (giver_at (tables_in words) s (last_of path s) p) + 1 ≡ s)
     unfolding giver_at
     a-giver e =
         let k = lowest-of (near_to words path s p) (λ q k. let w = near-gives s p q l m k in omega (arith, w.0)) e in

@@ -104,7 +104,8 @@ pub record Placeable (n : ℕ) (needs : List Need) (t words path : List ℕ) (co
   pub len : length t ≡ n
   pub needs-in : NeedsIn n needs
   pub kept : Kept (Gives needs) (at t)
-  pub at_place : (s p : ℕ) → s < count → member (set_at path s) p ≡ true → (p < max_width) × ((tables_in words).who s p < n) × (at t ((tables_in words).who s p) ≡ s)
+  pub at_place : (s p : ℕ) → s < count → member (set_at path s) p ≡ true → (p < max_width) × ((tables_in words).who s p < n)
+      × (at t ((tables_in words).who s p) ≡ s)
   pub of-job : (i : ℕ) → i < n → (p : ℕ) × (member (set_at path (at t i)) p ≡ true) × ((tables_in words).who (at t i) p ≡ i)
   pub apart : (s p q : ℕ) → s < count → member (set_at path s) p ≡ true → member (set_at path s) q ≡ true
       → (tables_in words).who s p ≡ (tables_in words).who s q → p ≡ q

@@ -15,7 +15,6 @@ ghost use Rattle.slotboards.specs.Placing.{filling, inherit, leave, inherited, o
 ghost use Rattle.slotboards.specs.Placing.{Below64, HereIn, LastIn, Fits, Plan, Boarded};
 ghost use Rattle.slotboards.specs.Rows.{PathIn, path_of, blank_columns, with_start, record_of, RowsSeated, RowsBoarded};
 
-use fields::{greater, wide};
 use jobset::Set;
 use layout::{TABLES, job_at};
 use placesets::{by_number, givers_at};
@@ -70,20 +69,18 @@ fn inherit(
     ensures { (filling result.free boards.new ≡ inherit (tables_in tables.now) slot last p (filling z.free boards.old))
         × (result.others ≡ leave (tables_in tables.now) slot last p z.others) }
 {
-    let free = z.free;
-    let others = z.others;
     let near = near_at(tables, slot, last, p);
-    if near.is_empty() {
+    let Some((giver, _)) = near.split_first() else {
         return Inherited {
-            free,
-            others: others.with(p),
+            others: z.others.with(p),
+            ..z
         };
-    }
-    let board = boards[job_at(tables, slot - 1, near.lowest() as usize)];
+    };
+    let board = boards[job_at(tables, slot - 1, giver)];
     boards[job_at(tables, slot, p)] = board;
     Inherited {
-        free: free.without(wide(board)),
-        others,
+        free: z.free.without(usize::from(board)),
+        ..z
     }
 }
 
@@ -103,11 +100,8 @@ fn inherit_all(
         free: ALL_BOARDS,
         others: Set::EMPTY,
     };
-    let mut rest = jobs;
-    while !rest.is_empty() {
-        let p = rest.lowest() as usize;
+    for p in jobs {
         z = inherit(z, tables, slot, last, p, boards);
-        rest = rest.rest();
     }
     z
 }
@@ -125,13 +119,8 @@ fn take_row(
     ensures { boards.new
         ≡ take_row (tables_in tables.now) slot (row_from row.now count) (filling first boards.old) }
 {
-    let mut free = first;
-    let mut left = count;
-    while 0 < left {
-        left -= 1;
-        let board = free.lowest();
-        boards[job_at(tables, slot, wide(row[left]))] = board as u8;
-        free = free.rest();
+    for (place, board) in row[..count].iter().rev().zip(first.into_iter()) {
+        boards[job_at(tables, slot, usize::from(*place))] = board as u8;
     }
 }
 
@@ -165,13 +154,11 @@ fn place_slots(
     ensures { boards.new ≡ place_slots (tables_in tables.now) path.now slots blank }
 {
     let mut last = Set::EMPTY;
-    let mut slot = 0;
-    while slot < slots {
+    for slot in 0..slots {
         let jobs = jobs_of(path, slot);
         let z = inherit_all(tables, slot, last, jobs, boards);
         take_lowest(z, tables, slot, boards);
         last = jobs;
-        slot += 1;
     }
 }
 
@@ -180,13 +167,7 @@ fn largest(boards: &[u8; MAX_JOBS], jobs: usize) -> usize
     requires { jobs ≤ max_jobs }
     ensures { result ≡ most (at boards.now) jobs }
 {
-    let mut most = 0;
-    let mut job = 0;
-    while job < jobs {
-        most = greater(wide(boards[job]), most);
-        job += 1;
-    }
-    most
+    usize::from(boards[..jobs].iter().copied().max().unwrap_or(0))
 }
 
 // The boards of so many jobs that run as the path says; gives the number of boards. The boards are zeros before.
@@ -218,13 +199,12 @@ fn blank_columns() -> Columns
 }
 
 // The start of record i is copied out.
-fn with_start(c: Columns, i: usize, r: JobRecord) -> Columns
+fn with_start(mut c: Columns, i: usize, r: JobRecord) -> Columns
     requires { i < max_jobs }
     ensures { result ≡ with_start c i r }
 {
-    let mut t = c;
-    t.starts[i] = r.start;
-    t
+    c.starts[i] = r.start;
+    c
 }
 
 // The set of the places of the jobs of each slot; the path is zeros before.
@@ -237,13 +217,11 @@ fn path_of(
     requires { (jobs ≤ max_jobs) × PathIn starts.now places.now jobs × (path.old ≡ replicate max_limit 0) }
     ensures { path.new ≡ path_of starts.now places.now jobs }
 {
-    let mut job = 0;
-    while job < jobs {
-        let slot = wide(starts[job]);
+    for (start, place) in starts[..jobs].iter().zip(places) {
+        let slot = usize::from(*start);
         let before = jobs_of(path, slot);
-        let after = before.with(wide(places[job]));
+        let after = before.with(usize::from(*place));
         path[slot] = after.bits as u8;
-        job += 1;
     }
 }
 
@@ -259,16 +237,11 @@ fn place_columns(
     ensures { (result.starts ≡ c.starts)
         × Boarded jobs tables.now (path_of c.starts places.now jobs) slots result.count result.boards }
 {
-    let starts = c.starts;
     let mut path = [0; MAX_SLOTS];
-    path_of(&starts, places, jobs, &mut path);
+    path_of(&c.starts, places, jobs, &mut path);
     let mut boards = [0; MAX_JOBS];
     let count = place(tables, &path, jobs, slots, &mut boards);
-    Columns {
-        count,
-        starts,
-        boards,
-    }
+    Columns { count, boards, ..c }
 }
 
 // The record of job i.
@@ -293,16 +266,12 @@ pub fn place_rows(
     ensures { RowsBoarded rows.old tables.now places.now slots (record { count = result; rows = rows.new }) }
 {
     let mut c = blank_columns();
-    let mut i = 0;
-    while i < rows.len() {
-        c = with_start(c, i, rows[i]);
-        i += 1;
+    for (i, record) in rows.iter().enumerate() {
+        c = with_start(c, i, *record);
     }
-    c = place_columns(c, tables, places, i, slots);
-    i = 0;
-    while i < rows.len() {
-        rows[i] = record_of(c, i);
-        i += 1;
+    c = place_columns(c, tables, places, rows.len(), slots);
+    for (i, record) in rows.iter_mut().enumerate() {
+        *record = record_of(c, i);
     }
     c.count
 }

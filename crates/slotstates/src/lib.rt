@@ -13,9 +13,9 @@ ghost use Rattle.threes.specs.Threes.{number_of};
 ghost use Rattle.slotstates.specs.Ranks.{ranked, times, ranks_in, Narrow, RanksFit};
 ghost use Rattle.slotstates.specs.Slots.{slots_bytes};
 
-use fields::{index, wide};
 use jobset::Set;
 use sizes::MAX_JOBS;
+use std::cmp::Ordering;
 
 // What the jobs of a slot have given so far: how many windows hold it, the ranks of the jobs that have begun, and of those that are running.
 #[derive(Clone, Copy)]
@@ -25,47 +25,56 @@ struct Ranks {
     pub running: Set,
 }
 
+impl Ranks {
+    // No window holds the slot.
+    const NONE: Ranks = Ranks {
+        count: 0,
+        begun: Set::EMPTY,
+        running: Set::EMPTY,
+    };
+
+    // One window more holds the slot: that of a job that starts in slot `start`.
+    fn ranked(self, start: usize, slot: usize) -> Ranks
+        requires { self.count < max_width }
+        ensures { result ≡ ranked slot start self }
+    {
+        let rank = self.count;
+        let counted = Ranks {
+            count: rank + 1,
+            ..self
+        };
+        match slot.cmp(&start) {
+            Ordering::Less => counted,
+            Ordering::Greater => Ranks {
+                begun: self.begun.with(rank),
+                ..counted
+            },
+            Ordering::Equal => Ranks {
+                begun: self.begun.with(rank),
+                running: self.running.with(rank),
+                ..counted
+            },
+        }
+    }
+
+    // The number of a slot: the entry for the jobs that have begun, and the entry for those that are running.
+    fn number(self) -> u16
+        requires { RanksFit self }
+        ensures { result ≡ number_of self.begun self.running }
+    {
+        threes::entry(self.begun.bits as u8) + threes::entry(self.running.bits as u8)
+    }
+}
+
 // Does the window of a job with this release and tail hold the slot?
 fn holds(release: u16, tail: u16, limit: usize, slot: usize) -> bool
     requires { slot < max_limit }
     ensures { result ≡ (leb release slot && leb (slot + 1 + tail) limit) }
 {
-    if slot < index(release) {
-        return false;
-    }
-    slot + 1 + index(tail) <= limit
+    usize::from(release) <= slot && slot + 1 + usize::from(tail) <= limit
 }
 
-// One window more holds the slot: that of a job that starts in slot `start`.
-fn ranked(z: Ranks, start: usize, slot: usize) -> Ranks
-    requires { z.count < max_width }
-    ensures { result ≡ ranked slot start z }
-{
-    let rank = z.count;
-    let begun = z.begun;
-    let running = z.running;
-    if slot < start {
-        return Ranks {
-            count: rank + 1,
-            begun,
-            running,
-        };
-    }
-    if start < slot {
-        return Ranks {
-            count: rank + 1,
-            begun: begun.with(rank),
-            running,
-        };
-    }
-    Ranks {
-        count: rank + 1,
-        begun: begun.with(rank),
-        running: running.with(rank),
-    }
-}
-
-// The ranks of a slot, of so many jobs with these starts, releases and tails, in rising number: `left` of them are still to come.
+// The ranks of a slot, of so many jobs with these starts, releases and tails, in rising number.
 fn ranks_in(
     starts: &[u8; MAX_JOBS],
     release: &[u16; MAX_JOBS],
@@ -77,30 +86,13 @@ fn ranks_in(
     requires { (jobs ≤ max_jobs) × (slot < max_limit) × Narrow (times starts.now release.now tail.now jobs limit) slot }
     ensures { result ≡ ranks_in (times starts.now release.now tail.now jobs limit) slot }
 {
-    let mut z = Ranks {
-        count: 0,
-        begun: Set::EMPTY,
-        running: Set::EMPTY,
-    };
-    let mut left = jobs;
-    while 0 < left {
-        let job = jobs - left;
-        left -= 1;
+    let mut ranks = Ranks::NONE;
+    for job in 0..jobs {
         if holds(release[job], tail[job], limit, slot) {
-            z = ranked(z, wide(starts[job]), slot);
+            ranks = ranks.ranked(usize::from(starts[job]), slot);
         }
     }
-    z
-}
-
-// The number of a slot: the entry for the jobs that have begun, and the entry for those that are running.
-fn number_of(z: Ranks) -> u16
-    requires { RanksFit z }
-    ensures { result ≡ number_of z.begun z.running }
-{
-    let begun = z.begun;
-    let running = z.running;
-    threes::entry(begun.bits as u8) + threes::entry(running.bits as u8)
+    ranks
 }
 
 // A two-byte number, low byte first.
@@ -108,8 +100,9 @@ fn put_word(states: &mut [u8], at: usize, w: u16)
     requires { at + 2 ≤ length states.old }
     ensures { states.new ≡ put at (word_bytes w) states.old }
 {
-    states[at] = (w % 256) as u8;
-    states[at + 1] = (w / 256) as u8;
+    let [low, high] = w.to_le_bytes();
+    states[at] = low;
+    states[at + 1] = high;
 }
 
 // The numbers of so many slots, two bytes each, low byte first.
@@ -127,10 +120,8 @@ pub fn put_numbers(
     ensures { states.new
         ≡ put 0 (slots_bytes (times starts.now release.now tail.now jobs limit) slots) states.old }
 {
-    let mut slot = 0;
-    while slot < slots {
-        let z = ranks_in(starts, release, tail, jobs, limit, slot);
-        put_word(states, 2 * slot, number_of(z));
-        slot += 1;
+    for slot in 0..slots {
+        let ranks = ranks_in(starts, release, tail, jobs, limit, slot);
+        put_word(states, 2 * slot, ranks.number());
     }
 }

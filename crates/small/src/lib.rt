@@ -3,45 +3,44 @@
 // A set of needs of so many jobs is a number (crate needsets).
 #![tactic(auto)]
 
-ghost use Rattle.std.specs.Prelude.{◌≡◌, [], ◌∷◌, ◌+◌, ◌≤◌, ◌<◌, length};
+ghost use Rattle.std.specs.Prelude.{◌≡◌, [], ◌∷◌, ◌+◌, ◌≤◌, ◌<◌, length, unwrap_or};
 ghost use Rattle.rules.specs.Basics.{joined};
-ghost use Rattle.rules.specs.SmallGates.{gate_file, planned_slots, gate_lines, or_zero, line_numbers, small_gates};
+ghost use Rattle.rules.specs.SmallGates.{gate_file, planned_slots, gate_lines, line_numbers, small_gates};
 ghost use Rattle.laws.specs.Writing.{put};
+ghost use Rattle.needsets.specs.Starts.{as_option};
 ghost use Rattle.small.specs.Lines.{agreed_slots, line_slots};
 
-use fields::wide;
 use needsets::file::put_file;
 use needsets::numbers::{is_gate, set_count};
 use needsets::starts::fewest;
-use planner::Planned;
 use sizes::TABLE_BYTES;
 
-// The slots of the planner's table for the job file of a number; 0 where it refuses the file.
-fn planned(jobs: usize, number: usize) -> u8
+// The slots of the planner's table for the job file of a number; None where it refuses the file.
+fn planned(jobs: usize, number: usize) -> Option<u8>
     requires { (1 ≤ jobs) × (jobs ≤ 4) }
-    ensures { result ≡ or_zero (planned_slots (gate_file jobs number)) }
+    ensures { result ≡ as_option (planned_slots (gate_file jobs number)) }
 {
     // Header and limit have 8 bytes, each of 4 jobs 6, each of 16 needs 5.
     let mut file = [0; 112];
     let mut work = io::large_buffer();
     let mut table = [0; TABLE_BYTES];
     let size = put_file(jobs, number, &mut file);
-    let p = planner::plan(&file[..size], &mut work, &mut table);
+    let answer = planner::plan(&file[..size], &mut work, &mut table);
     // Byte 4 of a table is its slots.
-    match p {
-        Planned::Table(_) => table[4],
-        Planned::Refused(_) => 0,
+    match answer {
+        Ok(_) => Some(table[4]),
+        Err(_) => None,
     }
 }
 
-// The planner's slots, where they are the fewest; 0 where it gives something else.
-fn agreed(slots: u8, least: usize) -> u8
-    ensures { result ≡ agreed_slots slots least }
+// The planner's slots, where they are the fewest; 0, and no Option, where it gives something else: the lines of the list are numbers of two bytes.
+fn agreed(planned: Option<u8>, least: Option<usize>) -> u8
+    ensures { result ≡ agreed_slots (unwrap_or planned 0) (unwrap_or least 0) }
 {
-    if wide(slots) != least {
-        return 0;
+    match (planned, least) {
+        (Some(slots), Some(fewest)) if usize::from(slots) == fewest => slots,
+        _ => 0,
     }
-    slots
 }
 
 // The line of a number: jobs, number and slots, at entry `at` of the list.
@@ -52,7 +51,7 @@ fn put_line(jobs: usize, number: usize, list: &mut [u16], at: usize)
     let slots = agreed(planned(jobs, number), fewest(jobs, number));
     list[at] = jobs as u16;
     list[at + 1] = number as u16;
-    list[at + 2] = slots as u16;
+    list[at + 2] = u16::from(slots);
 }
 
 // The lines of all sets of needs of so many jobs without a circle, in rising order of their numbers, from entry `first` of the list on;
@@ -64,10 +63,7 @@ fn put_lines(jobs: usize, list: &mut [u16], first: usize) -> usize
 {
     let many = set_count(jobs);
     let mut at = first;
-    let mut next = 0;
-    while next < many {
-        let number = next;
-        next += 1;
+    for number in 0..many {
         if is_gate(jobs, number) {
             put_line(jobs, number, list, at);
             at += 3;
@@ -83,9 +79,7 @@ pub fn small_gates() -> [u16; 1716]
 {
     let mut list = [0; 1716];
     let mut at = 0;
-    let mut jobs = 0;
-    while jobs < 4 {
-        jobs += 1;
+    for jobs in 1..=4 {
         at = put_lines(jobs, &mut list, at);
     }
     list

@@ -5,8 +5,7 @@
 ghost use Rattle.std.specs.Prelude.{◌≤◌, length};
 
 use sizes::{STATE_BYTES, TABLE_BYTES};
-
-const STDOUT_FILENO: i32 = 1;
+use streams::STDOUT_FILENO;
 
 // The numbers of a job file, with so many bytes for them; or the refusal.
 fn print_numbers(file: &[u8], work: &mut [u8], table: &mut [u8], states: &mut [u8], room: usize)

@@ -1,5 +1,5 @@
 -- The job file and its planned table, read once more, and the answer of the call. Assumes nothing.
-use Rattle.std.specs.Prelude.{◌≡◌, Bool, true, false, ℕ, zero, suc, ◌+◌, ◌-◌, ◌*◌, ◌≤◌, ◌<◌, take, eqb}
+use Rattle.std.specs.Prelude.{◌≡◌, Bool, true, ℕ, zero, suc, ◌-◌, ◌*◌, ◌≤◌, ◌<◌, take, eqb, Option, Some, None, Result, Ok, Err}
 use Rattle.std.proofs.Math.Path.{refl, sym, ap, ap₂}
 use Rattle.std.proofs.Common.{subst, ◌∙◌, get_or-take, take_at, drop_at}
 use mathlib.Core.List.{List, ◌∷◌, ◌++◌, map, Memᴰ}
@@ -9,7 +9,7 @@ use Rattle.std.proofs.Math.Dec.{T}
 use Rattle.rules.specs.Sizes.{max_jobs, max_limit, work_size, states_size}
 use Rattle.rules.specs.Basics.{at, filter, range, joined}
 use Rattle.rules.specs.Numbers.{word_bytes}
-use Rattle.rules.specs.Fields.{Answer, got, after, number_of}
+use Rattle.rules.specs.Fields.{Answer, got, after}
 use Rattle.rules.specs.Needs.{circle_free}
 use Rattle.rules.specs.JobFile.{JobFile, read_file}
 use Rattle.rules.specs.Windows.{release, tail}
@@ -38,8 +38,8 @@ use Rattle.needrows.specs.Rows.{rows_size}
 use Rattle.jobfile.specs.declared.Counts.{Counts}
 use Rattle.jobfile.specs.Reading.{Reads}
 use Rattle.planner.specs.Planner.{outcome_of, JobsRead}
-use Rattle.planner.specs.declared.Planned.{Planned}
-use Rattle.planner.specs.declared.Planned.TheVariants as planned
+use Rattle.refusals.specs.declared.Refusal.{Refusal}
+use Rattle.refusals.specs.declared.Refusal.TheVariants.{ShortBuffer}
 
 -- the planner gives a table for the file, and these are its bytes
 pub record PlannedFor (file table : List ℕ) : Type 0 where
@@ -51,9 +51,11 @@ pub record PlannedFor (file table : List ℕ) : Type 0 where
 
 module _ {file table : List ℕ} (p : PlannedFor file table) where
   -- it is readable
-  pub number-zero : {r : Counts} {o rows : List ℕ} → Reads file r o rows → r.number ≡ 0
-  unfolding number_of
-  number-zero reads = reads.number_is ∙ ap number_of (after-got (read_file file) plan_table p.planned-table p.is-planned).1
+  pub read-again : {r : Result Counts Refusal} {o rows : List ℕ} → Reads file r o rows → (c : Counts) × (r ≡ Ok c)
+  read-again reads =
+      let w = after-got (read_file file) plan_table p.planned-table p.is-planned in
+      let h = reads.held w.0 w.1 in
+      (h.0, h.1)
 
   module _ {n L : ℕ} {o rows : List ℕ} (j : JobsRead file n L o rows) where
     -- what the planner gives for it
@@ -82,96 +84,98 @@ module _ {file table : List ℕ} (p : PlannedFor file table) where
     decodes : decode (eqb N) table ≡ got p.planned-table
     decodes = rw (p.bytes-are, from.table_is) (reads-back j.file j.keeps from.no-circle from.narrow from.list from.short)
 
-    module _ {r : code.Rows} {at_rows s b : List ℕ} (d : Decodes table r at_rows s b) where
-      read_ok : r.ok ≡ true
-      read_ok = go r.ok refl
+    module _ {r : Option code.Rows} {at_rows s b : List ℕ} (d : Decodes table r at_rows s b) where
+      -- it is read
+      pub rows-again : (t : code.Rows) × (r ≡ Some t)
+      rows-again = go r refl
         where
           few : (k : ℕ) → T (eqb N k) → k ≤ max_jobs
           few k t = omega (arith, (T-eqb N k).0 t, j.keeps.jobs-in)
 
-          go : (x : Bool) → r.ok ≡ x → x ≡ true
-          go true e = refl
-          go false e = absurd (let z : ◌≡◌ {A = ℕ} 0 1 = cc (sym (d.not-read e (eqb N) few) ∙ decodes) in omega arith)
+          go : (x : Option code.Rows) → r ≡ x → (t : code.Rows) × (r ≡ Some t)
+          go (Some t) e = (t, e)
+          go None e = absurd (let z : ◌≡◌ {A = ℕ} 0 1 = cc (sym (d.not-read e (eqb N) few) ∙ decodes) in omega arith)
 
-      is-table : (N ≡ r.count) × (decoded_table table r.count ≡ p.planned-table)
-      is-table =
-          let w = ask-got (eqb N r.count) 14 (got (decoded_table table r.count)) p.planned-table
-          (sym ((d.held read_ok).decoded (eqb N)) ∙ decodes) in
-          ((T-eqb N r.count).0 w.0, got_same _ _ w.1)
+      module _ {t : code.Rows} (is-some : r ≡ Some t) where
+        is-table : (N ≡ t.count) × (decoded_table table t.count ≡ p.planned-table)
+        is-table =
+            let w = ask-got (eqb N t.count) 14 (got (decoded_table table t.count)) p.planned-table
+            (sym ((d.held t is-some).decoded (eqb N)) ∙ decodes) in
+            ((T-eqb N t.count).0 w.0, got_same _ _ w.1)
 
-      -- slots and starts are the table's
-      pub slots_read : r.slots ≡ p.planned-table.slots
-      unfolding decoded_table
-      slots_read = (d.held read_ok).slots-is ∙ ap (λ (x : Table). x.slots) is-table.1
+        -- slots and starts are the table's
+        pub slots_read : t.slots ≡ p.planned-table.slots
+        unfolding decoded_table
+        slots_read = (d.held t is-some).slots-is ∙ ap (λ (x : Table). x.slots) is-table.1
 
-      start-read : (i : ℕ) → i < n → at s i ≡ at (starts p.planned-table) i
-      start-read i h =
-          sym (get_or-take r.count s i 0 (omega (arith, is-table.0, j.held.jobs-is)))
-          ∙ ap (λ (l : List ℕ). at l i) ((d.held read_ok).starts-are ∙ ap starts is-table.1)
+        start-read : (i : ℕ) → i < n → at s i ≡ at (starts p.planned-table) i
+        start-read i h =
+            sym (get_or-take t.count s i 0 (omega (arith, is-table.0, j.held.jobs-is)))
+            ∙ ap (λ (l : List ℕ). at l i) ((d.held t is-some).starts-are ∙ ap starts is-table.1)
 
-      -- there is room for the numbers of so many slots
-      pub room_for : (states : List ℕ) → states_size ≤ length states → (r.slots ≤ max_limit) × (2 * r.slots ≤ length states)
-      room_for states room = omega (arith, slots_read, slots-few, j.held.limit_is, j.keeps.limit-in)
+        -- there is room for the numbers of so many slots
+        pub room_for : (states : List ℕ) → states_size ≤ length states → (t.slots ≤ max_limit) × (2 * t.slots ≤ length states)
+        room_for states room = omega (arith, slots_read, slots-few, j.held.limit_is, j.keeps.limit-in)
 
-      -- ---- the numbers
+        -- ---- the numbers
 
-      module _ (releases tails : List ℕ) (releases-are : (i : ℕ) → i < n → at releases i ≡ release n j.file.needs i)
-          (tails-are : (i : ℕ) → i < n → at tails i ≡ tail n j.file.needs i) where
-        abbrev z : Times
-        z = times s releases tails n L
+        module _ (releases tails : List ℕ) (releases-are : (i : ℕ) → i < n → at releases i ≡ release n j.file.needs i)
+            (tails-are : (i : ℕ) → i < n → at tails i ≡ tail n j.file.needs i) where
+          abbrev z : Times
+          z = times s releases tails n L
 
-        held_same : (k : ℕ) → holding z k n ≡ held_jobs N j.file.needs j.file.limit k
-        unfolding holding
-        held_same k =
-            let e : n - n ≡ 0 = omega arith in
-            ap (λ (i : ℕ). filter (window (at releases) (at tails) L k) (range n i)) e
-            ∙ filter_same _ _ (range n 0) (λ i m. window_same i ((range-below n i).0 m))
-            ∙ ap₂ (λ (m l : ℕ). filter (window (release m j.file.needs) (tail m j.file.needs) l k) (range m 0)) j.held.jobs-is j.held.limit_is
-            ∙ sym (held-window N j.file.needs j.file.limit k)
-          where
-            window_same : (i : ℕ) → i < n → window (at releases) (at tails) L k i ≡ window (release n j.file.needs) (tail n j.file.needs) L k i
-            window_same i h = unfold window in rw (releases-are i h, tails-are i h) refl
+          held_same : (k : ℕ) → holding z k n ≡ held_jobs N j.file.needs j.file.limit k
+          unfolding holding
+          held_same k =
+              let e : n - n ≡ 0 = omega arith in
+              ap (λ (i : ℕ). filter (window (at releases) (at tails) L k) (range n i)) e
+              ∙ filter_same _ _ (range n 0) (λ i m. window_same i ((range-below n i).0 m))
+              ∙ ap₂ (λ (m l : ℕ). filter (window (release m j.file.needs) (tail m j.file.needs) l k) (range m 0)) j.held.jobs-is j.held.limit_is
+              ∙ sym (held-window N j.file.needs j.file.limit k)
+            where
+              window_same : (i : ℕ) → i < n → window (at releases) (at tails) L k i ≡ window (release n j.file.needs) (tail n j.file.needs) L k i
+              window_same i h = unfold window in rw (releases-are i h, tails-are i h) refl
 
-        -- no more windows hold a slot of the table than a byte has bits
-        pub narrow : (k : ℕ) → k < r.slots → Narrow (times s releases tails n L) k
-        unfolding Narrow
-        narrow k h =
-            omega (
-              arith,
-              ap length (held_same k),
-              from.narrow,
-              held-few N j.file.needs j.file.limit k
-                  (omega (arith, slots_read, slots-few, j.held.limit_is)),
-            )
+          -- no more windows hold a slot of the table than a byte has bits
+          pub narrow : (k : ℕ) → k < t.slots → Narrow (times s releases tails n L) k
+          unfolding Narrow
+          narrow k h =
+              omega (
+                arith,
+                ap length (held_same k),
+                from.narrow,
+                held-few N j.file.needs j.file.limit k
+                    (omega (arith, slots_read, slots-few, j.held.limit_is)),
+              )
 
-        -- the bytes are those of the rules
-        bytes_same : slots_bytes z r.slots ≡ state_bytes j.file p.planned-table
-        unfolding slots_bytes state_bytes state_numbers
-        bytes_same =
-            ap (λ (c : ℕ). joined (slot_bytes z) (range c 0)) slots_read
-            ∙ joined_same _ _ (range p.planned-table.slots 0) (λ k m. number_same k ((range-below _ k).0 m))
-            ∙ sym (joined-map _ _ (range p.planned-table.slots 0))
-          where
-            digit-same : (k i : ℕ) → Memᴰ i (held_jobs N j.file.needs j.file.limit k)
-                → state_digit k (at s i) ≡ state_digit k (at (starts p.planned-table) i)
-            digit-same k i m =
-                ap (state_digit k) (start-read i (omega (arith, j.held.jobs-is, ((held-is N j.file.needs j.file.limit k i).0 m).0)))
+          -- the bytes are those of the rules
+          bytes_same : slots_bytes z t.slots ≡ state_bytes j.file p.planned-table
+          unfolding slots_bytes state_bytes state_numbers
+          bytes_same =
+              ap (λ (c : ℕ). joined (slot_bytes z) (range c 0)) slots_read
+              ∙ joined_same _ _ (range p.planned-table.slots 0) (λ k m. number_same k ((range-below _ k).0 m))
+              ∙ sym (joined-map _ _ (range p.planned-table.slots 0))
+            where
+              digit-same : (k i : ℕ) → Memᴰ i (held_jobs N j.file.needs j.file.limit k)
+                  → state_digit k (at s i) ≡ state_digit k (at (starts p.planned-table) i)
+              digit-same k i m =
+                  ap (state_digit k) (start-read i (omega (arith, j.held.jobs-is, ((held-is N j.file.needs j.file.limit k i).0 m).0)))
 
-            number_same : (k : ℕ) → k < p.planned-table.slots → slot_bytes z k
-                ≡ word_bytes (state_number N j.file.needs j.file.limit (starts p.planned-table) k)
-            number_same k h = unfold slot_bytes state_digits in ap word_bytes (
-                slot-number z k (narrow k (omega (arith, slots_read)))
-                ∙ ap (λ (l : List ℕ). base_three (map (λ i. state_digit k (at s i)) l)) (held_same k)
-                ∙ ap base_three ((map-agree _ _ (held_jobs N j.file.needs j.file.limit k)).1 (digit-same k)))
+              number_same : (k : ℕ) → k < p.planned-table.slots → slot_bytes z k
+                  ≡ word_bytes (state_number N j.file.needs j.file.limit (starts p.planned-table) k)
+              number_same k h = unfold slot_bytes state_digits in ap word_bytes (
+                  slot-number z k (narrow k (omega (arith, slots_read)))
+                  ∙ ap (λ (l : List ℕ). base_three (map (λ i. state_digit k (at s i)) l)) (held_same k)
+                  ∙ ap base_three ((map-agree _ _ (held_jobs N j.file.needs j.file.limit k)).1 (digit-same k)))
 
-        -- so written into the buffer they are the report
-        pub bytes-written : (states states' : List ℕ) → states_size ≤ length states → states' ≡ put 0 (slots_bytes (times s releases tails n L) r.slots) states
-            → states' ≡ reported (report_on state_bytes file) states
-        unfolding reported
-        bytes-written states states' room e =
-            e ∙ put_front (slots_bytes z r.slots) states (omega (arith, bytes_count z r.slots, room_for states room))
-            ∙ ap (λ (bs : List ℕ). bs ++ drop (length bs) states) bytes_same
-            ∙ sym (ap (λ (x : Answer (List ℕ)). reported x states) (report-of j.file p.planned-table file j.read gives))
+          -- so written into the buffer they are the report
+          pub bytes-written : (states states' : List ℕ) → states_size ≤ length states → states' ≡ put 0 (slots_bytes (times s releases tails n L) t.slots) states
+              → states' ≡ reported (report_on state_bytes file) states
+          unfolding reported
+          bytes-written states states' room e =
+              e ∙ put_front (slots_bytes z t.slots) states (omega (arith, bytes_count z t.slots, room_for states room))
+              ∙ ap (λ (bs : List ℕ). bs ++ drop (length bs) states) bytes_same
+              ∙ sym (ap (λ (x : Answer (List ℕ)). reported x states) (report-of j.file p.planned-table file j.read gives))
 
 -- ---- the call
 
@@ -187,7 +191,7 @@ front_long part rest n e = omega (arith, e, length-append part rest)
 
 -- too few bytes for the numbers: nothing is changed
 pub short-states : (file work table states : List ℕ) → length states < states_size
-    → (outcome_of (planned.Refused 1) work table ≡ (plan_states file work table states).outcome) × (states ≡ (plan_states file work table states).report)
+    → (outcome_of (Err ShortBuffer) work table ≡ (plan_states file work table states).outcome) × (states ≡ (plan_states file work table states).report)
 short-states file work table states h =
     let e = states-short file work table states h in (sym (ap (λ (r : Reported). r.outcome) e), sym (ap (λ (r : Reported). r.report) e))
 
@@ -197,7 +201,7 @@ pub record PlanCalled : Type 0 where
   pub work : List ℕ
   pub table : List ℕ
   pub states : List ℕ
-  pub answer : Planned
+  pub answer : Result ℕ Refusal
   pub work-left : List ℕ
   pub table-left : List ℕ
   pub room : states_size ≤ length states
@@ -209,25 +213,25 @@ module _ (c : PlanCalled) where
   outcome = plan c.file c.work c.table
 
   -- by the answer's variant
-  outcome-by : (x : Planned) → c.answer ≡ x → outcome_of x c.work-left c.table-left ≡ outcome
-  outcome-by x e = subst (λ (y : Planned). outcome_of y c.work-left c.table-left ≡ outcome) e c.answered
+  outcome-by : (x : Result ℕ Refusal) → c.answer ≡ x → outcome_of x c.work-left c.table-left ≡ outcome
+  outcome-by x e = subst (λ (y : Result ℕ Refusal). outcome_of y c.work-left c.table-left ≡ outcome) e c.answered
 
   -- number, size and buffers are the planner's
-  pub same_outcome : (x : Planned) → c.answer ≡ x
+  pub same_outcome : (x : Result ℕ Refusal) → c.answer ≡ x
       → outcome_of x c.work-left c.table-left ≡ (plan_states c.file c.work c.table c.states).outcome
   same_outcome x e = outcome-by x e ∙ sym (states-outcome c.file c.work c.table c.states c.room)
 
   -- a refusal leaves the bytes for the numbers as they were
-  pub refusal-leaves : (q : ℕ) → c.answer ≡ planned.Refused q → c.states ≡ (plan_states c.file c.work c.table c.states).report
+  pub refusal-leaves : (q : Refusal) → c.answer ≡ Err q → c.states ≡ (plan_states c.file c.work c.table c.states).report
   refusal-leaves q e = sym (states-refused c.file c.work c.table c.states c.room (λ z. omega (
     arith,
-    ap (λ (o : Outcome). o.size) (outcome-by (planned.Refused q) e),
+    ap (λ (o : Outcome). o.size) (outcome-by (Err q) e),
     table-has-bytes c.file c.work c.table z,
   )))
 
-  module _ (size : ℕ) (e : c.answer ≡ planned.Table size) where
+  module _ (size : ℕ) (e : c.answer ≡ Ok size) where
     number_is : outcome.number ≡ 0
-    number_is = sym (ap (λ (o : Outcome). o.number) (outcome-by (planned.Table size) e))
+    number_is = sym (ap (λ (o : Outcome). o.number) (outcome-by (Ok size) e))
 
     -- the bytes of a table, what was behind them, and the working buffer
     written_is : (T : Table) → asked c.file ≡ got T
@@ -235,7 +239,7 @@ module _ (c : PlanCalled) where
     unfolding written
     written_is T a =
         let full = answers-full c.file c.work c.table number_is in
-        let w = outcome-by (planned.Table size) e ∙ plan-full c.file c.work c.table full.0 full.1
+        let w = outcome-by (Ok size) e ∙ plan-full c.file c.work c.table full.0 full.1
         ∙ ap (λ (x : Answer Table). written x c.work c.table) a in
         (ap (λ (o : Outcome). o.size) w, ap (λ (o : Outcome). o.table) w, ap (λ (o : Outcome). o.work) w)
 
@@ -280,8 +284,8 @@ module _ (c : PlanCalled) where
 
     -- so the answer is the planner's
     pub table-outcome : (work' : List ℕ) → work' ≡ c.work-left
-        → outcome_of (planned.Table size) work' c.table-left ≡ (plan_states c.file c.work c.table c.states).outcome
-    table-outcome work' q = rw q (same_outcome (planned.Table size) e)
+        → outcome_of (Ok size) work' c.table-left ≡ (plan_states c.file c.work c.table c.states).outcome
+    table-outcome work' q = rw q (same_outcome (Ok size) e)
 
     -- and its numbers are given
     pub reports : (states' : List ℕ) → states' ≡ reported (report_on state_bytes c.file) c.states

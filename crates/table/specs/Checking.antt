@@ -1,11 +1,14 @@
 -- The ways out of the check, by what it has found out. Assumes nothing.
-use Rattle.std.specs.Prelude.{◌≡◌, Bool, true, false, List, take, drop, leb, eqb}
+use Rattle.std.specs.Prelude.{◌≡◌, Option, None, Result, Ok, Err, Bool, true, false, List, take, drop, leb, eqb}
 use Rattle.std.proofs.Math.Path.{refl, sym, ap}
-use Rattle.std.proofs.Common.{ap₂, ◌∙◌, ne_eqb, length-take-le}
+use Rattle.std.proofs.Common.{subst, ap₂, ◌∙◌, ne_eqb, length-take-le}
 use Prim.Native.Nat.{ℕ, zero, suc, ◌+◌, ◌≤◌, ◌<◌}
 use native.Mathlib.Omega.{arith}
 use Rattle.std.proofs.Math.ListN.{length, length-drop}
 use Rattle.std.proofs.Math.Dec.{T}
+use Rattle.std.specs.Option.{unwrap_or}
+use Rattle.refusals.specs.Refusals.{number, no-zero, refusal_number}
+use Rattle.refusals.specs.declared.Refusal.{Refusal}
 use Rattle.rules.specs.Sizes.{max_jobs, max_limit, max_boards}
 use Rattle.rules.specs.Basics.{choose, at}
 use Rattle.rules.specs.Fields.{Answer, refused, got, ask, after, value}
@@ -22,16 +25,16 @@ use Rattle.laws.specs.Check.{q15, q16, q18}
 use Rattle.laws.specs.Decoded.{row_number, decoded_table}
 use Rattle.laws.proofs.Refusals.{read-got}
 use Rattle.laws.specs.Numbers.{bytes-all}
-use Rattle.jobfile.specs.Reading.{state_of, Held, Reads}
+use Rattle.jobfile.specs.Reading.{given, state_of, Held, Reads}
 use Rattle.needrows.specs.Rows.{rows_size, RowsAre}
 use Rattle.releases.specs.Ordered.{OfNeeds}
-use Rattle.rows.specs.Rows.{Few}
+use Rattle.rows.specs.Rows.{Few, Decodes}
 use Rattle.rows.specs.RowWays.{IsRow, row_is}
 use Rattle.questions.specs.Questions.{labelled_by, Placed, labelled_in, RowsIn, rows_kept}
 use Rattle.questions.specs.QuestionLaws.{kept-is, rows_in}
-use Rattle.table.specs.Cells.{Lines, LinesAsked, LinesRead, starts_in, boards_in, cells_in, lines_long, cells-yes, cells-no}
-use Rattle.table.specs.Entries.{verdict_of}
-use Rattle.table.specs.declared.Verdict.TheVariants as verdict
+use Rattle.table.specs.Cells.{Lines, LinesRead, starts_in, boards_in, cells_in, lines_long, cells-yes, cells-no}
+use Rattle.table.specs.Entries.{passed_of}
+use Rattle.rows.specs.declared.Rows.{Rows}
 use Rattle.jobfile.specs.declared.Counts.{Counts}
 
 -- ---- what it has found out
@@ -50,7 +53,7 @@ jobs g = g.counts.jobs
 
 -- the reader's answer is that of the rules
 abbrev pub Answered : Given → Type 0
-Answered g = Reads g.file g.counts g.offsets g.takers
+Answered g = Reads g.file (Ok g.counts) g.offsets g.takers
 
 -- the answer to question 11 is that of the rules, for the needs that the rows hold
 abbrev pub CircleAsked : Given → Bool → Type 0
@@ -73,7 +76,6 @@ pub record FileRead (g : Given) : Type 0 where
   pub bytes : (i : ℕ) → at g.file i < 256
   pub reads : Answered g
   pub room : rows_size ≤ length g.takers
-  pub ok : g.counts.number ≡ 0
 
 -- and 11
 pub record NoCircle (g : Given) : Type 0 where
@@ -102,27 +104,36 @@ pub record CellsRight (g : Given) (r : Lines) : Type 0 where
 
 -- a refusal by question q
 abbrev pub Refuses : Given → ℕ → Type 0
-Refuses g q = verdict.Refused q ≡ verdict_of (check g.file g.table)
+Refuses g q = refused q ≡ passed_of (check g.file g.table)
 
 -- what the check gives
 abbrev Gives : Given → Answer Table → Type 0
 Gives g x = check g.file g.table ≡ x
 
 refused-by : (g : Given) (q : ℕ) → Gives g (refused q) → Refuses g q
-unfolding verdict_of
+unfolding passed_of
 refused-by g q e = rw e refl
 
 -- ---- questions 2 to 10, and 21
 
 -- the reader says no
-pub file-refused : (g : Given) → Answered g → (g.counts.number ≡ 0 → ⊥) → Refuses g g.counts.number
-unfolding check after
-file-refused g reads n = refused-by g g.counts.number (rw (number-refused (read_file g.file) g.counts.number reads.number_is n) refl)
+pub file-refused : (file table : List ℕ) {r : Result Counts Refusal} {os ts : List ℕ} (q : Refusal) → Reads file r os ts → r ≡ Err q
+    → refused (number q) ≡ passed_of (check file table)
+unfolding check after passed_of
+file-refused file table q reads e = rw (number-refused (read_file file) (number q) (ap refusal_number (sym e) ∙ reads.number_is) (no-zero q)) refl
+
+ok-same : {a b : Counts} → ◌≡◌ {A = Result Counts Refusal} (Ok a) (Ok b) → a ≡ b
+ok-same e = cc
+
+most-given : (sockets : Option ℕ) (n : ℕ) → sockets ≡ given n → unwrap_or sockets max_boards ≡ choose (eqb n 0) max_boards n
+unfolding choose
+most-given sockets zero e = rw e refl
+most-given sockets (suc k) e = rw (e, ne_eqb (suc k) 0 (λ z. omega arith)) refl
 
 module _ {g : Given} (read : FileRead g) where
   -- what the file says
   file-got : (f : JobFile) × (read_file g.file ≡ got f)
-  file-got = read-got g.file (sym read.reads.number_is ∙ read.ok)
+  file-got = read-got g.file (sym read.reads.number_is)
 
   abbrev job_file : JobFile
   job_file = file-got.0
@@ -132,7 +143,12 @@ module _ {g : Given} (read : FileRead g) where
 
   -- what the reader holds of it
   held : Held g.file job_file (state_of g.counts g.offsets g.takers)
-  held = read.reads.held job_file file-got.1
+  held = let w = read.reads.held job_file file-got.1 in subst (λ (c : Counts). Held g.file job_file (state_of c g.offsets g.takers)) (sym (ok-same w.1)) w.2
+
+  -- so are the most boards, where it gives them, or eight
+  most-are : unwrap_or g.counts.sockets max_boards ≡ most_boards job_file
+  unfolding most_boards
+  most-are = most-given g.counts.sockets job_file.sockets held.sockets-is
 
   -- so there are at most 400 jobs
   pub jobs-few : jobs g ≤ max_jobs
@@ -156,13 +172,8 @@ module _ {g : Given} (read : FileRead g) where
   takers-in = rows_in (jobs g) job_file.needs g.takers held.few needs-in held.rows_are read.room
 
   -- the limit and the most boards are within their bounds
-  pub bounds-in : (g.counts.limit ≤ max_limit) × (g.counts.sockets ≤ max_boards)
-  unfolding most_boards choose
-  bounds-in = (omega (arith, held.limit_is, file-is.limit-in), rw held.sockets-is (within job_file.sockets file-is.boards-in.1))
-    where
-      within : (sockets : ℕ) → choose (eqb sockets 0) max_boards sockets ≤ max_boards → sockets ≤ max_boards
-      within zero h = omega arith
-      within (suc k) h = rw (ne_eqb (suc k) 0 (λ e. omega arith)) at h
+  pub bounds-in : (g.counts.limit ≤ max_limit) × (unwrap_or g.counts.sockets max_boards ≤ max_boards)
+  bounds-in = (omega (arith, held.limit_is, file-is.limit-in), rw most-are file-is.boards-in.1)
 
   -- ---- question 11
 
@@ -194,9 +205,9 @@ module _ {g : Given} (free : NoCircle g) where
   decoding = asked free.file-read free.ok free.asked ∙ rw free.free refl
 
   -- the rows are not read
-  pub not-read : (r : Lines) → LinesAsked g.table r → r.counts.ok ≡ false → Refuses g 14
+  pub not-read : {r : Option Rows} {os ss ns : List ℕ} → Decodes g.table r os ss ns → r ≡ None → Refuses g 14
   unfolding after
-  not-read r rows e = refused-by g 14 (decoding ∙ rw (rows.not-read e many few) refl)
+  not-read rows e = refused-by g 14 (decoding ∙ rw (rows.not-read e many few) refl)
     where
       few : Few many
       few n t = let p : length file_of.jobs ≡ n = simp tests at t in omega (arith, (file-is free.file-read).jobs-in)
@@ -297,12 +308,11 @@ module _ {g : Given} {r : Lines} (right : LabelsRight g r) where
 
   -- question q says no
   pub bad-cells : {q : ℕ} → q ≡ cells g r → (q ≡ 0 → ⊥) → Refuses g q
-  unfolding most_boards
   bad-cells {q} e n =
       let h = file-held fits in
       let x = q18 (f fits) (t fits) in
       let no = cells-no g.table r fits.rows-read g.counts.limit g.counts.sockets (jobs g) (sym fits.count-is) x q e n in
-      refused-by g q (sixteen ∙ rw (size_is fits, ← h.limit_is, ← h.sockets-is) no)
+      refused-by g q (sixteen ∙ rw (size_is fits, ← h.limit_is, ← most-are fits.no-circle.file-read) no)
 
 -- ---- question 18
 
@@ -311,12 +321,11 @@ module _ {g : Given} {r : Lines} (right : CellsRight g r) where
   fit = right.labels_right.rows_fit
 
   eighteen : Gives g (q18 (f fit) (t fit))
-  unfolding most_boards
   eighteen =
       let h = file-held fit in
       let x = q18 (f fit) (t fit) in
       let yes = cells-yes g.table r fit.rows-read g.counts.limit g.counts.sockets (jobs g) (sym fit.count-is) x right.right in
-      sixteen right.labels_right ∙ rw (size_is fit, ← h.limit_is, ← h.sockets-is) yes
+      sixteen right.labels_right ∙ rw (size_is fit, ← h.limit_is, ← most-are fit.no-circle.file-read) yes
 
   -- the code's question is that of the rules
   kept-so : kept g r ≡ needs_kept (f fit).needs (starts (t fit)) (boards_of (t fit))
@@ -332,6 +341,6 @@ module _ {g : Given} {r : Lines} (right : CellsRight g r) where
   need-broken e = refused-by g 18 (eighteen ∙ rw (sym kept-so ∙ e) refl)
 
   -- all questions are yes
-  pub passes : kept g r ≡ true → verdict.Passes ≡ verdict_of (check g.file g.table)
-  unfolding ask verdict_of
+  pub passes : kept g r ≡ true → got tt ≡ passed_of (check g.file g.table)
+  unfolding ask passed_of
   passes e = rw (eighteen, sym kept-so ∙ e) refl

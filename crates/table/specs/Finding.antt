@@ -1,5 +1,5 @@
 -- The ways out of the lookup, by what it has tested. Assumes nothing.
-use Rattle.std.specs.Prelude.{◌≡◌, false, ◌&&◌, List, ℕ, zero, suc, ◌+◌, ◌-◌, ◌≤◌, ◌<◌, T}
+use Rattle.std.specs.Prelude.{◌≡◌, Option, Some, None, ◌&&◌, List, ℕ, zero, suc, ◌+◌, ◌-◌, ◌≤◌, ◌<◌, T}
 use Rattle.std.proofs.Math.Path.{refl, sym, ap}
 use Rattle.std.proofs.Common.{subst, ◌∙◌, arith}
 use Rattle.std.proofs.Math.ListN.{length}
@@ -13,12 +13,11 @@ use Rattle.laws.specs.Tests.{tests}
 use Rattle.laws.specs.Fields.{ask-yes, ask-no, whole_is, length-value, after-head}
 use Rattle.laws.specs.Decoded.{decoded_table}
 use Rattle.laws.specs.Lookup.{job-row}
-use Rattle.table.specs.declared.places.Found.{Found}
-use Rattle.table.specs.declared.places.Found.TheVariants as found
 use Rattle.table.specs.declared.places.Place.{Place}
-use Rattle.table.specs.declared.places.Place.TheVariants as place
+use Rattle.rows.specs.declared.Rows.{Rows}
+use Rattle.rows.specs.Rows.{Decodes}
 use Rattle.rows.specs.RowWays.{IsRow, row_is}
-use Rattle.table.specs.Cells.{rows-length, Lines, LinesAsked, LinesRead, starts_in, boards_in, cells_in, ask_cells, cells-yes, cells-no}
+use Rattle.table.specs.Cells.{rows-length, Lines, LinesRead, starts_in, boards_in, cells_in, ask_cells, cells-yes, cells-no}
 use Rattle.table.specs.Lookup.{job-at}
 use Rattle.table.specs.Names.{job-few, name-lies}
 use Rattle.table.specs.Entries.{job_in, found_of, place_of, job_of}
@@ -38,7 +37,7 @@ rows a = a.lines.counts.count
 
 -- 16 and 17, for any job file: the number of the first that says no, or 0
 abbrev pub cells : Asked → ℕ
-cells a = cells_in max_limit 0 (rows a) a.lines
+cells a = cells_in max_limit None (rows a) a.lines
 
 -- the number of the first row with the slot and the board, or 0
 abbrev pub job : Asked → ℕ
@@ -63,22 +62,22 @@ pub record JobFound (a : Asked) (j : ℕ) : Type 0 where
 -- ---- the ways out
 
 -- the answer is this place
-abbrev pub Finds : Asked → Place → Type 0
+abbrev pub Finds : Asked → Answer (Option Place) → Type 0
 Finds a p = p ≡ place_of a.table (lookup a.table a.slot a.board)
 
-refused-by : (a : Asked) (q : ℕ) → lookup_table a.table ≡ refused q → Finds a (place.Refused q)
+refused-by : (bs : List ℕ) (s b q : ℕ) → lookup_table bs ≡ refused q → refused q ≡ place_of bs (lookup bs s b)
 unfolding lookup place_of after
-refused-by a q e = rw e refl
+refused-by bs s b q e = rw e refl
 
 -- the rows are not read
-pub not-read : (a : Asked) → LinesAsked a.table a.lines → a.lines.counts.ok ≡ false → Finds a (place.Refused 14)
+pub not-read : (bs : List ℕ) (s b : ℕ) {r : Option Rows} {os ss ns : List ℕ} → Decodes bs r os ss ns → r ≡ None → refused 14 ≡ place_of bs (lookup bs s b)
 unfolding lookup_table after
-not-read a asked e = refused-by a 14 (rw (asked.not-read e (λ n. leb 1 n && leb n max_jobs) (λ n t. let w = simp tests at t in w.1)) refl)
+not-read bs s b asked e = refused-by bs s b 14 (rw (asked.not-read e (λ n. leb 1 n && leb n max_jobs) (λ n t. let w = simp tests at t in w.1)) refl)
 
 -- there are none
-pub no_rows : (a : Asked) → LinesRead a.table a.lines → rows a < 1 → Finds a (place.Refused 14)
+pub no_rows : (a : Asked) → LinesRead a.table a.lines → rows a < 1 → Finds a (refused 14)
 unfolding lookup_table after
-no_rows a read h = refused-by a 14 (rw (
+no_rows a read h = refused-by a.table a.slot a.board 14 (rw (
   read.decoded (λ n. leb 1 n && leb n max_jobs),
   ask-no (leb 1 (rows a) && leb (rows a) max_jobs) 14 (got (decoded_table a.table (rows a))) (λ t. let w = simp tests at t in omega arith),
 ) refl)
@@ -88,7 +87,7 @@ abbrev table_of : Asked → Table
 table_of a = decoded_table a.table (rows a)
 
 module _ {a : Asked} (r : TableRead a) where
-  asks : lookup_table a.table ≡ ask_cells a.table a.lines r.read max_limit 0 (rows a) refl (got (table_of a))
+  asks : lookup_table a.table ≡ ask_cells a.table a.lines r.read max_limit None (rows a) refl (got (table_of a))
   unfolding lookup_table after choose
   asks = rw (
     r.read.decoded (λ n. leb 1 n && leb n max_jobs),
@@ -97,8 +96,8 @@ module _ {a : Asked} (r : TableRead a) where
   ) refl
 
   -- question 16 or 17 says no
-  pub bad-cells : {q : ℕ} → q ≡ cells a → (q ≡ 0 → ⊥) → Finds a (place.Refused q)
-  bad-cells {q} e n = refused-by a q (asks ∙ cells-no a.table a.lines r.read max_limit 0 (rows a) refl (got (table_of a)) q e n)
+  pub bad-cells : {q : ℕ} → q ≡ cells a → (q ≡ 0 → ⊥) → Finds a (refused q)
+  bad-cells {q} e n = refused-by a.table a.slot a.board q (asks ∙ cells-no a.table a.lines r.read max_limit None (rows a) refl (got (table_of a)) q e n)
 
 module _ {a : Asked} (r : CellsRight a) where
   abbrev lines-read : LinesRead a.table a.lines
@@ -110,11 +109,11 @@ module _ {a : Asked} (r : CellsRight a) where
   answered : lookup a.table a.slot a.board ≡ got (job a)
   unfolding lookup after
   answered =
-      rw (asks r.table-read ∙ cells-yes a.table a.lines lines-read max_limit 0 (rows a) refl (got (table_of a)) r.right)
+      rw (asks r.table-read ∙ cells-yes a.table a.lines lines-read max_limit None (rows a) refl (got (table_of a)) r.right)
       (ap got job-at-is)
 
   -- no row has the slot and the board
-  pub idle : {j : ℕ} → j ≡ job a → j ≡ 0 → Finds a place.Idle
+  pub idle : {j : ℕ} → j ≡ job a → j ≡ 0 → Finds a (got None)
   unfolding place_of
   idle e z = rw (answered, sym e ∙ z) refl
 
@@ -146,7 +145,7 @@ module _ {a : Asked} {j : ℕ} (f : JobFound a j) where
     pub row_ends : {v : List ℕ} → v ≡ value a.table o → (5 ≤ length v) × (o + 3 + length v ≤ length a.table)
     row_ends w = omega (arith, ap length w, row_at.sizes, length-value a.table o row-whole, (whole_is a.table o).0 row-whole)
 
-    pub found_here : {v : List ℕ} → v ≡ value a.table o → Finds a (place.Name j (o + 7) (o + 3 + length v))
+    pub found_here : {v : List ℕ} → v ≡ value a.table o → Finds a (got (Some (record { job = j; start = o + 7; end = o + 3 + length v })))
     unfolding place_of name_span row_start
     found_here {v} w =
         let l : o + 3 + length v ≡ field_end a.table o = omega (arith, ap length w, length-value a.table o row-whole, after-head a.table o) in
@@ -162,10 +161,10 @@ job-found bs (got zero) = refl
 job-found bs (got (suc i)) = refl
 
 -- a name lies in the table, and near its front
-unfoldable Lies : List ℕ → Place → Type 0
-Lies bs (place.Name j a e) = (a ≤ e) × (e ≤ length bs) × (e ≤ table_size)
-Lies bs place.Idle = Unit {0}
-Lies bs (place.Refused q) = Unit {0}
+unfoldable Lies : List ℕ → Answer (Option Place) → Type 0
+Lies bs (refused q) = Unit {0}
+Lies bs (got None) = Unit {0}
+Lies bs (got (Some p)) = (p.start ≤ p.end) × (p.end ≤ length bs) × (p.end ≤ table_size)
 
 lies : (bs : List ℕ) (s b : ℕ) → Lies bs (place_of bs (lookup bs s b))
 lies bs s b = go (lookup bs s b) refl
@@ -175,15 +174,15 @@ lies bs s b = go (lookup bs s b) refl
     go (got zero) e = unfold Lies place_of in tt
     go (got (suc i)) e = unfold Lies place_of name_span in name-lies bs s b i e
 
-pub name_in : (bs : List ℕ) (s b j a e : ℕ) → place_of bs (lookup bs s b) ≡ place.Name j a e → (a ≤ e) × (e ≤ length bs) × (e ≤ table_size)
+pub name_in : (bs : List ℕ) (s b : ℕ) (p : Place) → place_of bs (lookup bs s b) ≡ got (Some p) → (p.start ≤ p.end) × (p.end ≤ length bs) × (p.end ≤ table_size)
 unfolding Lies
-name_in bs s b j a e q = subst (Lies bs) q (lies bs s b)
+name_in bs s b p q = subst (Lies bs) q (lies bs s b)
 
 -- a job's number is at most 400
-unfoldable Small : Found → Type 0
-Small (found.Job j) = j ≤ max_jobs
-Small found.Idle = Unit {0}
-Small (found.Refused q) = Unit {0}
+unfoldable Small : Answer (Option ℕ) → Type 0
+Small (refused q) = Unit {0}
+Small (got None) = Unit {0}
+Small (got (Some j)) = j ≤ max_jobs
 
 small : (bs : List ℕ) (s b : ℕ) → Small (found_of (lookup bs s b))
 small bs s b = go (lookup bs s b) refl
@@ -193,6 +192,6 @@ small bs s b = go (lookup bs s b) refl
     go (got zero) e = unfold Small found_of in tt
     go (got (suc i)) e = unfold Small found_of in job-few bs s b (suc i) e
 
-pub job-small : (bs : List ℕ) (s b j : ℕ) → found_of (lookup bs s b) ≡ found.Job j → j ≤ max_jobs
+pub job-small : (bs : List ℕ) (s b j : ℕ) → found_of (lookup bs s b) ≡ got (Some j) → j ≤ max_jobs
 unfolding Small
 job-small bs s b j q = subst Small q (small bs s b)

@@ -1,36 +1,35 @@
 -- The lookup over the rows that were read: the first row with a slot and a board. Assumes nothing.
-use Rattle.std.specs.Prelude.{◌≡◌, true, false, ◌&&◌, List, [], ◌∷◌, map, drop, eqb}
+use Rattle.std.specs.Prelude.{◌≡◌, Bool, true, false, cond, ◌&&◌, Some, List, [], ◌∷◌, map, eqb}
+use Rattle.std.specs.List.{position, position_from, zip}
 use Rattle.std.proofs.Math.Path.{refl}
-use Rattle.std.proofs.Common.{ap, ◌∙◌, add-one, drop_of_length-le}
-use Prim.Native.Nat.{ℕ, suc, ◌+◌, ◌≤◌, ◌<◌}
-use native.Mathlib.Omega.{arith}
-use Rattle.std.proofs.Math.ListN.{length}
-use Rattle.std.proofs.Math.Seq.{drop-cons}
-use Rattle.rules.specs.Basics.{choose, at}
+use Rattle.std.proofs.Common.{ap, ◌∙◌, add-one}
+use Rattle.std.proofs.lemmas.Iterator.Adapters.{position_from-zero}
+use Prim.Native.Nat.{ℕ, suc, ◌+◌}
+use Rattle.rules.specs.Basics.{choose}
 use Rattle.rules.specs.Table.{Row}
 use Rattle.rules.specs.Answers.{job_at}
-use Rattle.table.specs.Entries.{job_in}
+use Rattle.table.specs.Entries.{job_in, row_number}
 
--- ---- the first row with a slot and a board
+-- the first row with a slot and a board, by its position among the pairs of start and board
+abbrev runs : ℕ → ℕ → ℕ × ℕ → Bool
+runs s b p = eqb p.0 s && eqb p.1 b
 
-module _ (ts bs : List ℕ) (s b i : ℕ) (same : length bs ≡ length ts) where
-  next_row : (k : ℕ) → i < length ts → job_in k (drop i ts) (drop i bs) s b
-      ≡ choose (eqb (at ts i) s && eqb (at bs i) b) k (job_in (suc k) (drop (i + 1) ts) (drop (i + 1) bs) s b)
-  unfolding job_in
-  next_row k h = rw (add-one, drop-cons ts i 0 h, let l : i < length bs = omega arith in drop-cons bs i 0 l) refl
+from-position : (i : ℕ) (ts bs : List ℕ) (s b : ℕ) → row_number (position_from (runs s b) i (zip ts bs)) ≡ job_in (suc i) ts bs s b
+unfolding job_in choose
+from-position i [] bs s b = refl
+from-position i (t ∷ ts) [] s b = refl
+from-position i (t ∷ ts) (c ∷ bs) s b = go (eqb t s && eqb c b) (from-position (i + 1) ts bs s b ∙ ap (λ n. job_in (suc n) ts bs s b) (add-one i))
+  where
+    next : ℕ
+    next = row_number (position_from (runs s b) (i + 1) (zip ts bs))
 
-  pub row-found : i < length ts → (eqb (at ts i) s && eqb (at bs i) b) ≡ true → job_in (i + 1) (drop i ts) (drop i bs) s b ≡ i + 1
-  unfolding choose
-  row-found h e = next_row (i + 1) h ∙ rw e refl
+    go : (x : Bool) → next ≡ job_in (suc (suc i)) ts bs s b
+        → row_number (cond x (Some i) (position_from (runs s b) (i + 1) (zip ts bs))) ≡ choose x (suc i) (job_in (suc (suc i)) ts bs s b)
+    go true e = refl
+    go false e = e
 
-  pub row-passed : i < length ts → (eqb (at ts i) s && eqb (at bs i) b) ≡ false → job_in (i + 1) (drop i ts) (drop i bs) s b
-      ≡ job_in (i + 1 + 1) (drop (i + 1) ts) (drop (i + 1) bs) s b
-  unfolding choose
-  row-passed h e = next_row (i + 1) h ∙ rw (e, let two : i + 1 + 1 ≡ suc (i + 1) = omega arith in two) refl
-
-  pub no_row : length ts ≤ i → job_in (i + 1) (drop i ts) (drop i bs) s b ≡ 0
-  unfolding job_in
-  no_row h = rw (drop_of_length-le ts h) refl
+pub row-position : (ts bs : List ℕ) (s b : ℕ) → row_number (position (runs s b) (zip ts bs)) ≡ job_in 1 ts bs s b
+row-position ts bs s b = ap row_number (position_from-zero (runs s b) (zip ts bs)) ∙ from-position 0 ts bs s b
 
 -- over rows as over their starts and boards
 pub job-at : (i : ℕ) (rows : List Row) (s b : ℕ) → job_at i rows s b ≡ job_in i (map (λ r. r.start) rows) (map (λ r. r.board) rows) s b

@@ -1,55 +1,68 @@
 // The lookup and the name on the table of document 01's example.
-use crate::STDOUT_FILENO;
 use crate::checked::{TABLE, show};
+use std::io;
 
-// The answer and the name's place.
-fn at(label: &[u8], slot: usize, board: usize) {
-    let table = TABLE;
-    show(label, gate::gate_lookup(&table, slot, board));
-    show(b"  name at", gate::gate_name_at(&table, slot, board));
-    io::write_all(STDOUT_FILENO, b"  name (");
-    io::write_all(STDOUT_FILENO, gate::name(&table, slot, board));
-    io::write_all(STDOUT_FILENO, b")\n");
-}
+// Slots and boards of the example's table.
+const CELLS: [(&str, usize, usize); 11] = [
+    ("job 1", 0, 1),
+    ("job 2", 0, 2),
+    ("job 3", 2, 1),
+    ("an idle board", 2, 2),
+    ("an empty slot", 1, 1),
+    ("board 0", 0, 0),
+    ("a slot beyond", 3, 1),
+    ("a board beyond", 0, 3),
+    ("slot 256", 256, 1),
+    ("board 257", 0, 257),
+    ("the greatest slot and board", usize::MAX, usize::MAX),
+];
 
-// Another table, in slot 0 on board 1.
-fn other(label: &[u8], table: &[u8]) {
-    show(label, gate::gate_lookup(table, 0, 1));
-    show(b"  name at", gate::gate_name_at(table, 0, 1));
-}
-
-pub(crate) fn all() {
-    at(b"job 1", 0, 1);
-    at(b"job 2", 0, 2);
-    at(b"job 3", 2, 1);
-    at(b"an idle board", 2, 2);
-    at(b"an empty slot", 1, 1);
-    at(b"board 0", 0, 0);
-    at(b"a slot beyond", 3, 1);
-    at(b"a board beyond", 0, 3);
-    at(b"slot 256", 256, 1);
-    at(b"board 257", 0, 257);
-    at(b"the greatest slot and board", usize::MAX, usize::MAX);
-    other(b"14 no byte", b"");
-    other(b"14 no row", b"\x10\x03\x00\x01\x01\x01");
-    other(
-        b"16 slots",
+// Other tables.
+const TABLES: [(&str, &[u8]); 7] = [
+    ("14 no byte", b""),
+    ("14 no row", b"\x10\x03\x00\x01\x01\x01"),
+    (
+        "16 slots",
         b"\x10\x03\x00\x01\x02\x01\x11\x05\x00\x00\x01\x00\x00a",
-    );
-    other(
-        b"16 board 0",
+    ),
+    (
+        "16 board 0",
         b"\x10\x03\x00\x01\x01\x00\x11\x05\x00\x00\x00\x00\x00a",
-    );
-    other(
-        b"16 slots beyond 64",
+    ),
+    (
+        "16 slots beyond 64",
         b"\x10\x03\x00\x01\x41\x01\x11\x05\x00\x40\x01\x00\x00a",
-    );
-    other(
-        b"17 one slot and board",
+    ),
+    (
+        "17 one slot and board",
         b"\x10\x03\x00\x01\x01\x01\x11\x05\x00\x00\x01\x00\x00a\x11\x05\x00\x00\x01\x00\x00b",
-    );
-    other(
-        b"starts in any order",
+    ),
+    (
+        "starts in any order",
         b"\x10\x03\x00\x01\x40\x01\x11\x05\x00\x3f\x01\x00\x00a\x11\x05\x00\x00\x01\xff\xff~",
-    );
+    ),
+];
+
+// The lines of a table: the answer and the name's place.
+fn look(rt: &impl Print, label: &str, table: &[u8], slot: usize, board: usize) -> io::Result<()> {
+    show(rt, label, gate::gate_lookup(table, slot, board))?;
+    show(rt, "  name at", gate::gate_name_at(table, slot, board))
+}
+
+// The name as a line.
+fn show_name(rt: &impl Print, name: &[u8]) -> io::Result<()> {
+    print!(rt; "  name (")?;
+    rt.write_all(name)?;
+    println!(rt; ")")
+}
+
+pub(crate) fn all(rt: &impl Print) -> io::Result<()> {
+    for (label, slot, board) in CELLS {
+        look(rt, label, &TABLE, slot, board)?;
+        show_name(rt, gate::name(&TABLE, slot, board))?;
+    }
+    for (label, table) in TABLES {
+        look(rt, label, table, 0, 1)?;
+    }
+    Ok(())
 }

@@ -6,10 +6,10 @@ mod checked;
 mod long;
 mod looked;
 
-const STDOUT_FILENO: i32 = 1;
+use std::io;
 
-fn main() {
-    checked::all();
-    looked::all();
-    long::all();
+fn main(rt: HostRuntime) -> io::Result<()> {
+    checked::all(&rt)?;
+    looked::all(&rt)?;
+    long::all(&rt)
 }

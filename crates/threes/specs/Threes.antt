@@ -3,7 +3,7 @@
 -- More of what holds: proofs/Threes.antt.
 use Rattle.std.specs.Prelude.{◌≡◌, Bool, T, eqb}
 use Rattle.std.proofs.Math.Bool.{true}
-use Prim.Native.Nat.{ℕ, zero, suc, ◌+◌, ◌-◌, ◌^◌, ◌<◌}
+use Prim.Native.Nat.{ℕ, zero, suc, ◌+◌, ◌^◌, ◌<◌}
 use Rattle.rules.specs.Basics.{choose, all, range}
 use Rattle.laws.specs.Tests.{T-all, T-eqb}
 use Rattle.laws.specs.Counting.{range-below}

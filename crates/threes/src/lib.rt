@@ -29,6 +29,5 @@ pub const THREES: [u16; 256] = [
 pub fn entry(byte: u8) -> u16
     ensures { result ≡ entry byte }
 {
-    let entries = THREES;
-    entries[byte as usize]
+    THREES[usize::from(byte)]
 }

@@ -1,5 +1,5 @@
 -- The bytes that the writer puts, piece by piece. Assumes nothing.
-use Rattle.std.specs.Prelude.{List, [], ◌∷◌, ℕ, ◌-◌, ◌≤◌, ◌<◌, length, T}
+use Rattle.std.specs.Prelude.{List, [], ◌∷◌, ℕ, ◌≤◌, ◌<◌, length, T}
 use Rattle.rules.specs.Basics.{at, tabulate}
 use Rattle.rules.specs.Numbers.{low, high, centimetres}
 use Rattle.rules.specs.Fields.{value, whole}

@@ -6,7 +6,7 @@ ghost use Rattle.rules.specs.Sizes.{max_jobs, table_size};
 ghost use Rattle.rules.specs.Table.{row_bytes, encode};
 ghost use Rattle.writer.specs.Written.{head_bytes, fixed_bytes, row_with, table_with, JobFields};
 
-use fields::{index, value_at, word_at};
+use fields::{value_at, word_at};
 use sizes::MAX_JOBS;
 
 // The field with tag 16: edition 1, slots and boards.
@@ -23,8 +23,7 @@ fn put_fixed(size: u8, start: u8, board: u8, level: u16, table: &mut [u8])
     requires { 7 ≤ length table.old }
     ensures { table.new ≡ fixed_bytes size start board level ++ drop 7 table.old }
 {
-    let low = (level % 256) as u8;
-    let high = (level / 256) as u8;
+    let [low, high] = level.to_le_bytes();
     let fixed = [17, size, 0, start, board, low, high];
     table[..7].copy_from_slice(&fixed);
 }
@@ -34,6 +33,7 @@ fn put_name(name: &[u8], table: &mut [u8])
     requires { length name.now ≤ length table.old }
     ensures { table.new ≡ name.now ++ drop (length name.now) table.old }
 {
+    // No copy_from_slice: the archive for C may need memcpy and memset alone, and that of so many bytes needs memmove.
     for i in 0..name.len() {
         table[i] = name[i];
     }
@@ -73,14 +73,12 @@ pub fn write_table(
 {
     put_head(slots, count, table);
     let mut at = 6;
-    let mut i = 0;
-    while i < jobs {
-        let v = value_at(file, index(offsets[i]));
+    for i in 0..jobs {
+        let v = value_at(file, usize::from(offsets[i]));
         let start = starts[i];
         let board = boards[i];
         let size = put_row(v, start, board, &mut table[at..]);
         at += size;
-        i += 1;
     }
     at
 }

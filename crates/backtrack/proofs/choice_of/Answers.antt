@@ -10,7 +10,7 @@ returns-then-exceeds c =
     rw (
       sym c.exceeds.ensures ∙ c.if-exceeds.true,
       c.union.ensures,
-      c.index.ensures,
+      c.from.ensures,
     )
 
 pub returns : goal.returns

@@ -30,7 +30,9 @@ returns-then-not-is_subset c = rw (sym c.is_subset.ensures ∙ c.if-not-is_subse
 
 pub returns-then-is_empty : goal.returns-then-is_empty
 unfolding sort_place is_forced is_tied choose
-returns-then-is_empty c = rw (ready (goal.at.returns-then-is_empty c).After-intersection-near, none-near (goal.at.returns-then-is_empty c).After-is_empty ∙ c.if-is_empty.true, c.with.ensures)
+returns-then-is_empty c =
+    let i = goal.at.returns-then-is_empty c in
+    rw (ready i.After-intersection-near, none-near i.After-is_empty ∙ c.if-is_empty.true, c.with.ensures)
 
 pub returns-then-not-is_one : goal.returns-then-not-is_one
 unfolding sort_place is_forced is_tied choose

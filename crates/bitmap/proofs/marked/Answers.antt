@@ -1,5 +1,4 @@
 -- `bitmap::marked` meets its contract. Assumes nothing.
-use borrow.Author.Rules.{rules}
 use mathlib.Core.Path.{refl}
 use Rattle.jobset.specs.Sets.{digit}
 use Rattle.bitmap.specs.Marks.{is_marked}

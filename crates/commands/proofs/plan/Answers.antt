@@ -1,9 +1,11 @@
 -- Both buffers are large enough, so the number is one of the questions that the planner asks.
 use Rattle.std.proofs.Common.{arith}
+use Rattle.laws.specs.Refusals.{PlanNumber}
 use Rattle.laws.proofs.Demands.{plan-numbers}
+use Rattle.gate.specs.Laws.{said-in}
 use Rattle.commands.proofs.plan.Goals as goal
 
 pub returns : goal.returns
 returns c =
     let w = c.large_buffer-work.ensures in
-    rw c.plan_bytes.ensures (plan-numbers _ _ _ (omega (arith, w)) (omega arith))
+    said-in PlanNumber _ _ c.plan_bytes.ensures (plan-numbers _ _ _ (omega (arith, w)) (omega arith))

@@ -1,7 +1,8 @@
--- The number that is printed is that of the rules.
-use Rattle.std.proofs.Common.{◌∙◌}
-use Rattle.gate.specs.Laws.{planned-number}
+-- The number of what is printed is that of the rules.
+use Rattle.std.proofs.Common.{ap, ◌∙◌}
+use Rattle.gate.specs.Numbers.{said_number}
+use Rattle.gate.specs.Laws.{said-number, planned-number}
 use Rattle.commands.proofs.plan_bytes.Goals as goal
 
 pub returns : goal.returns
-returns c = c.print_planned.ensures ∙ (planned-number c.plan-p.result _ _ _ c.plan-p.ensures).0
+returns c = ap said_number c.print_planned.ensures ∙ said-number _ ∙ (planned-number c.plan-p.result _ _ _ c.plan-p.ensures).0

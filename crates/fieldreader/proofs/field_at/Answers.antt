@@ -1,61 +1,41 @@
 -- `fieldreader::field_at` meets its contract. Assumes nothing.
-use mathlib.Core.Path.{◌∙◌, sym}
-use Prim.Native.Nat.{◌+◌}
-use native.Mathlib.Omega.{arith}
-use borrow.Author.Tests.{not-true, not-false}
-use borrow.Author.Rules.{rules}
-use Rattle.fieldreader.specs.FieldWays.{short-head, short-value, unknown-tag, misplaced, length-below, length_above, found}
+use Rattle.std.proofs.Common.{◌≡◌, ◌∙◌, sym, ◌&&◌, leb, true, false, arith}
+use Rattle.std.proofs.lemmas.Grind.{common_steps}
+use Rattle.std.proofs.lemmas.Result.{err_from_is_err_and}
+use Rattle.laws.specs.Tests.{T_true}
+use Rattle.laws.specs.Fields.{whole_is}
+use Rattle.fieldreader.specs.FieldWays.{not-whole, unknown-tag, misplaced, wrong-length, found}
 use Rattle.fieldreader.proofs.field_at.Goals as goal
 
-pub returns-then-n-at-lt3 : goal.returns-then-n-at-lt3
-returns-then-n-at-lt3 c = short-head _ _ _ c.requires c.if-n-at-lt3.true
+pub returns-then-not-is_whole : goal.returns-then-not-is_whole
+returns-then-not-is_whole c = not-whole _ _ _ (sym c.is_whole.ensures ∙ c.if-not-is_whole.true)
 
-pub overflow_mul-len : goal.overflow_mul-len
-overflow_mul-len c = omega (arith, c.shared_slice_known-4-1.given (c.args.at + 2))
-
-pub overflow_add-len : goal.overflow_add-len
-overflow_add-len c =
-    omega (
-      arith,
-      c.shared_slice_known-4-1.given (c.args.at + 2),
-      c.shared_slice_known-3-1.given (c.args.at + 1),
-    )
-
-pub returns-then-n-start : goal.returns-then-n-start
-returns-then-n-start c =
-    short-value _ _ _ _ _ c.wide.ensures c.wide-2.ensures c.if-n-at-lt3.false
-    c.if-n-start.true
-
-pub returns-then-row-tag : goal.returns-then-row-tag
-returns-then-row-tag c =
-    unknown-tag _ _ _ _ _ c.wide.ensures c.wide-2.ensures
-    c.if-n-at-lt3.false c.if-n-start.false _ c.row_of-row.ensures
-    (λ e. c.if-row-tag.true (omega (arith, e)))
+pub returns-in_err-row : goal.returns-in_err-row
+returns-in_err-row c =
+    let p = err_from_is_err_and c.from_residual.result c.from_residual.ensures.1 in
+    let w = unknown-tag _ _ c.args.fields (sym c.is_whole.ensures ∙ c.if-not-is_whole.false) (sym c.row_of.ensures ∙ c.in_err-row.ensures.ok_part) in
+    let v = rw c.in_err-row.ensures.ok_part at c.in_err-row.ensures.value in
+    rw (p.1, p.2) (cc)
 
 pub returns-then-not-in_place : goal.returns-then-not-in_place
 returns-then-not-in_place c =
-    misplaced _ _ _ _ _ c.wide.ensures c.wide-2.ensures
-    c.if-n-at-lt3.false c.if-n-start.false _ c.row_of-row.ensures
-    c.if-row-tag.false (sym c.in_place.ensures ∙ c.if-not-in_place.true)
+    misplaced _ _ _ (sym c.is_whole.ensures ∙ c.if-not-is_whole.false) _ (sym c.row_of.ensures ∙ c.in_ok-row.ensures.ok_part)
+    (sym c.in_place.ensures ∙ c.if-not-in_place.true)
 
-pub returns-then-len-least : goal.returns-then-len-least
-returns-then-len-least c =
-    length-below _ _ _ _ _ c.wide.ensures c.wide-2.ensures
-    c.if-n-at-lt3.false c.if-n-start.false _ c.row_of-row.ensures
-    c.if-row-tag.false
-    (sym c.in_place.ensures ∙ c.if-not-in_place.false) c.if-len-least.true
+pub word_at-word-requires : goal.word_at-word-requires
+word_at-word-requires c =
+    omega (arith, (whole_is c.args.file.now c.args.at).0 ((T_true _).1 (sym c.is_whole.ensures ∙ c.if-not-is_whole.false)))
 
-pub returns-then-greatest-len : goal.returns-then-greatest-len
-returns-then-greatest-len c =
-    length_above _ _ _ _ _ c.wide.ensures c.wide-2.ensures
-    c.if-n-at-lt3.false c.if-n-start.false _ c.row_of-row.ensures
-    c.if-row-tag.false
-    (sym c.in_place.ensures ∙ c.if-not-in_place.false) c.if-greatest-len.true
+pub returns-then-not-contains : goal.returns-then-not-contains
+returns-then-not-contains c =
+    let row = sym c.row_of.ensures ∙ c.in_ok-row.ensures.ok_part in
+    let e : leb c.in_ok-row.row.least c.from-len.result && leb c.from-len.result c.in_ok-row.row.greatest ≡ false = grind (arith, common_steps) in
+    wrong-length _ _ _ (sym c.is_whole.ensures ∙ c.if-not-is_whole.false) _ row
+    (sym c.in_place.ensures ∙ c.if-not-in_place.false) _ (c.from-len.ensures ∙ c.word_at-word.ensures) e
 
 pub returns : goal.returns
 returns c =
-    found _ _ _ _ _ c.wide.ensures c.wide-2.ensures
-    c.if-n-at-lt3.false c.if-n-start.false _ c.row_of-row.ensures
-    c.if-row-tag.false
-    (sym c.in_place.ensures ∙ c.if-not-in_place.false)
-    c.if-len-least.false c.if-greatest-len.false
+    let row = sym c.row_of.ensures ∙ c.in_ok-row.ensures.ok_part in
+    let e : leb c.in_ok-row.row.least c.from-len.result && leb c.from-len.result c.in_ok-row.row.greatest ≡ true = grind (arith, common_steps) in
+    found _ _ _ (sym c.is_whole.ensures ∙ c.if-not-is_whole.false) _ row
+    (sym c.in_place.ensures ∙ c.if-not-in_place.false) _ (c.from-len.ensures ∙ c.word_at-word.ensures) e

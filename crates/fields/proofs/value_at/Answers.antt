@@ -14,10 +14,10 @@ pub word_at-requires : goal.word_at-requires
 word_at-requires c = let h = head_in _ _ c.requires in search rules
 
 pub overflow_add-end : goal.overflow_add-end
-overflow_add-end c = let h = value-ends _ _ _ (c.index.ensures ∙ c.word_at.ensures) c.requires in search rules
+overflow_add-end c = let h = value-ends _ _ _ (c.from.ensures ∙ c.word_at.ensures) c.requires in search rules
 
 pub slice_bounds-result-end : goal.slice_bounds-result-end
-slice_bounds-result-end c = let h = value-ends _ _ _ (c.index.ensures ∙ c.word_at.ensures) c.requires in search rules
+slice_bounds-result-end c = let h = value-ends _ _ _ (c.from.ensures ∙ c.word_at.ensures) c.requires in search rules
 
 pub returns : goal.returns
-returns c = value-part _ _ _ (c.index.ensures ∙ c.word_at.ensures)
+returns c = value-part _ _ _ (c.from.ensures ∙ c.word_at.ensures)

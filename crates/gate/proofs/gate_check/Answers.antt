@@ -1,14 +1,13 @@
 -- `gate::gate_check` meets its contract. Assumes nothing.
-use Rattle.gate.specs.Laws.{verdict-number}
-use Rattle.gate.specs.Numbers.{verdict_number}
-use mathlib.Core.Path.{sym, ap, ◌∙◌}
-use borrow.Author.Rules.{rules}
+use Rattle.std.proofs.Common.{ap, ◌∙◌}
+use Rattle.rules.specs.Fields.{number_of}
+use Rattle.table.specs.Entries.{number-passed}
 use Rattle.gate.proofs.gate_check.Goals as goal
 
-pub returns-in-Passes : goal.returns-in-Passes
-unfolding verdict_number
-returns-in-Passes c = sym (ap verdict_number (sym c.check-v.ensures ∙ c.in-Passes.is)) ∙ verdict-number _
+pub returns-in-Ok : goal.returns-in-Ok
+unfolding number_of
+returns-in-Ok c = ap number_of c.in-Ok.ensures ∙ number-passed _
 
-pub returns-in-Refused : goal.returns-in-Refused
-unfolding verdict_number
-returns-in-Refused c = sym (ap verdict_number (sym c.check-v.ensures ∙ c.in-Refused.is)) ∙ verdict-number _
+pub returns-in-Err : goal.returns-in-Err
+unfolding number_of
+returns-in-Err c = c.from.ensures ∙ c.number.ensures ∙ ap number_of c.in-Err.ensures ∙ number-passed _

@@ -1,5 +1,4 @@
 -- `gate::gate_states` meets its contract. Assumes nothing.
-use borrow.Author.Rules.{rules}
 use mathlib.Core.Path.{◌∙◌}
 use native.Mathlib.Omega.{arith}
 use Rattle.gate.specs.Laws.{size_few, answer-number, buffers-left, states-few, states-have-bytes}
@@ -8,8 +7,7 @@ use Rattle.gate.proofs.gate_states.Goals as goal
 pub answer_number-requires : goal.answer_number-requires
 answer_number-requires c =
     let p = c.state_numbers in
-    let bytes = c.shared_slice_known-1.given in
-    size_few p.result _ _ _ p.ensures.table_after (states-few _ _ _ _ (λ i. omega (arith, bytes i)))
+    size_few p.result _ _ _ p.ensures.table_after (states-few _ _ _ _ (λ i. omega (arith, c.type_inv.file i)))
 
 pub returns : goal.returns
 returns c =

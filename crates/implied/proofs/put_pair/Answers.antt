@@ -2,15 +2,10 @@
 use mathlib.Core.Path.{ap₂}
 use Prim.Native.Nat.{ℕ, ◌+◌}
 use native.Mathlib.Numerals.{add-one}
-use native.Mathlib.Omega.{arith}
-use borrow.Author.Rules.{rules}
-use lib.ListN.{set, length-set}
+use lib.ListN.{set}
 use Rattle.rules.specs.Implied.{pair_numbers}
 use Rattle.laws.specs.Writing.{put}
 use Rattle.implied.proofs.put_pair.Goals as goal
-
-pub bounds-list-at-2 : goal.bounds-list-at-2
-bounds-list-at-2 c = let a = c.args in omega (arith, length-set a.list.now a.at (a.giver + 1))
 
 pub returns : goal.returns
 unfolding put pair_numbers

@@ -1,13 +1,5 @@
-use mathlib.Core.Path.{◌≡◌, refl, sym, ap, ◌∙◌}
-use Prim.Native.Nat.{◌-◌}
-use native.Mathlib.Omega.{arith}
-use borrow.Author.Rules.{rules}
-use lib.ListN.{length}
-use Rattle.fieldreader.specs.declared.FieldAnswer.TheVariants.{Field}
-use Rattle.fieldreader.specs.Reader.{field_at, refusal_of}
-use Rattle.fieldreader.specs.FieldFound.{Stands, stands, value-is, bounds}
-use Rattle.jobfile.specs.FieldByField.{start-read, end_same, field-same-no, ReadTo}
-use Rattle.jobfile.proofs.FieldByField.{value-same-no, value_read}
+use Rattle.std.proofs.Common.{◌≡◌, ◌-◌, length}
+use Rattle.jobfile.specs.FieldByField.{ReadTo}
 use Rattle.jobfile.proofs.read_fields.Given as goal
 
 -- the fields before `at` are read into counts, offsets and rows

@@ -1,8 +1,7 @@
 -- `layout::job_at` meets its contract. Assumes nothing.
 use Rattle.layout.specs.Layout.{tables_in}
-use borrow.Author.Rules.{rules}
 use Rattle.layout.proofs.job_at.Goals as goal
 
 pub returns : goal.returns
 unfolding tables_in
-returns c = c.index.ensures
+returns c = c.from.ensures

@@ -13,8 +13,7 @@ use Rattle.lengths.proofs.starts_of.Goals as goal
 use Rattle.lengths.proofs.starts_of.Goals.{After-of_byte}
 
 -- the set of the slot
-set_is : (c : After-of_byte) → c.of_byte.result
-    ≡ set_at c.args.path.now c.loop-slot.slot
+set_is : (c : After-of_byte) → c.of_byte.result ≡ set_at c.args.path.now c.loop-slot.slot
 set_is c = ap (λ (x : ℕ). record { bits = x }) c.of_byte.ensures.0
 
 pub start_all-requires : goal.start_all-requires
@@ -27,9 +26,9 @@ loop-slot-preserved c =
     let l = c.loop-slot in
     let a = c.args in
     let p = c.requires in
-    rw (add-one) (slot_turn (tables_in a.tables.now) l.slot a.slots a.path.now l.starts _ c.loop-slot-test.true
-    (omega arith)
-    (c.start_all.ensures ∙ ap (λ (S : Set). place l.slot (jobs_up ((tables_in a.tables.now).who l.slot) S) l.starts) (set_is (goal.at.loop-slot-preserved c).After-of_byte))
+    let e = set_is (goal.at.loop-slot-preserved c).After-of_byte in
+    rw add-one (slot_turn (tables_in a.tables.now) l.slot a.slots a.path.now l.starts _ c.loop-slot-test.true (omega arith)
+    (c.start_all.ensures ∙ ap (λ (S : Set). place l.slot (jobs_up ((tables_in a.tables.now).who l.slot) S) l.starts) e)
     ∙ l.invariant)
 
 pub returns : goal.returns

@@ -1,20 +1,25 @@
 -- `levels::centimetres` meets its contract. Assumes nothing.
-use mathlib.Core.Path.{sym, ap, ◌∙◌}
-use native.Mathlib.Omega.{arith}
-use borrow.Author.Rules.{rules}
+use Rattle.std.proofs.Common.{◌≡◌, ◌-◌, ◌<◌, ◌≤◌, sym, ap, ◌∙◌, arith}
+use Rattle.std.proofs.lemmas.Int.{ints}
+use Rattle.rules.specs.Numbers.{round_half_even}
 use Rattle.laws.specs.Rounding.{rounded-low}
-use Rattle.levels.specs.Levels.{twos_complement, rounded, rounded-above, rounded-below}
+use Rattle.levels.specs.Levels.{twos_complement, rounded-above, rounded-below}
 use Rattle.levels.proofs.centimetres.Goals as goal
 
-pub overflow_cast-result : goal.overflow_cast-result
-overflow_cast-result c = omega (arith, c.round_half_even.ensures, rounded-low c.wide-w.result, c.if-w-lt-NEGATIVE.true)
+pub returns-then-is_negative : goal.returns-then-is_negative
+unfolding twos_complement
+returns-then-is_negative c =
+    let level = c.args.level in
+    let below : 32768 ≤ level = grind (arith, ints) in
+    let fits : level < 65536 = omega arith in
+    let size : c.unsigned_abs.result ≡ 65536 - level = grind (arith, ints) in
+    let low = rounded-low (65536 - level) in
+    let nearest : c.round_half_even-nearest.result ≡ round_half_even (65536 - level) = c.round_half_even-nearest.ensures ∙ ap round_half_even size in
+    omega (arith, c.wrapping_neg.ensures, rounded-below level below fits)
 
-pub returns-then-w-lt-NEGATIVE : goal.returns-then-w-lt-NEGATIVE
-returns-then-w-lt-NEGATIVE c = c.round_half_even.ensures ∙ sym (rounded-above _ c.if-w-lt-NEGATIVE.true) ∙ ap rounded c.wide-w.ensures
-
-pub returns : goal.returns
-returns c =
-    let w = c.wide-w in
-    let fits = c.ranges in
-    c.minus.ensures ∙ ap twos_complement c.round_half_even-2.ensures
-    ∙ sym (rounded-below _ c.if-w-lt-NEGATIVE.false (omega (arith, fits, w.ensures))) ∙ ap rounded w.ensures
+pub returns-else-is_negative : goal.returns-else-is_negative
+returns-else-is_negative c =
+    let level = c.args.level in
+    let above : level < 32768 = grind (arith, ints) in
+    let size : c.unsigned_abs.result ≡ level = grind (arith, ints) in
+    c.round_half_even-nearest.ensures ∙ ap round_half_even size ∙ sym (rounded-above level above)

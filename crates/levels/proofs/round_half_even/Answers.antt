@@ -1,25 +1,17 @@
 -- `levels::round_half_even` meets its contract. Assumes nothing.
-use native.Mathlib.Omega.{arith}
-use borrow.Author.Rules.{rules}
+use Rattle.std.proofs.Common.{◌≡◌, ◌%◌, ◌<◌, arith}
+use Rattle.std.proofs.lemmas.Grind.{common_steps}
 use Rattle.levels.specs.Levels.{by-rest}
 use Rattle.levels.proofs.round_half_even.Goals as goal
 
-pub returns-then-rest-lt5 : goal.returns-then-rest-lt5
-returns-then-rest-lt5 c = let down = c.if-rest-lt5.true in by-rest _ _ (λ h. omega arith) (λ h. omega arith) (λ h. omega arith)
+pub returns-in-Less : goal.returns-in-Less
+returns-in-Less c =
+    let down : c.args.millimetres % 10 < 5 = grind (arith, common_steps) in by-rest _ _ (λ h. omega arith) (λ h. omega arith) (λ h. omega arith)
 
-pub returns-then-rest-gt5 : goal.returns-then-rest-gt5
-returns-then-rest-gt5 c = let up = c.if-rest-gt5.true in by-rest _ _ (λ h. omega arith) (λ h. omega arith) (λ h. omega arith)
+pub returns-in-Equal : goal.returns-in-Equal
+returns-in-Equal c =
+    let half : c.args.millimetres % 10 ≡ 5 = grind (arith, common_steps) in by-rest _ _ (λ h. omega arith) (λ h. omega arith) (λ h. omega arith)
 
-pub returns-then-whole-eq0 : goal.returns-then-whole-eq0
-returns-then-whole-eq0 c =
-    let not-down = c.if-rest-lt5.false in
-    let not-up = c.if-rest-gt5.false in
-    let even = c.if-whole-eq0.true in
-    by-rest _ _ (λ h. omega arith) (λ h. omega arith) (λ h. omega arith)
-
-pub returns : goal.returns
-returns c =
-    let not-down = c.if-rest-lt5.false in
-    let not-up = c.if-rest-gt5.false in
-    let odd = c.if-whole-eq0.false in
-    by-rest _ _ (λ h. omega arith) (λ h. omega arith) (λ h. omega arith)
+pub returns-in-Greater : goal.returns-in-Greater
+returns-in-Greater c =
+    let up : 5 < c.args.millimetres % 10 = grind (arith, common_steps) in by-rest _ _ (λ h. omega arith) (λ h. omega arith) (λ h. omega arith)

@@ -1,5 +1,4 @@
 -- `needrows::clear_row` meets its contract. Assumes nothing.
-use borrow.Author.Rules.{rules}
 use Prim.Native.Nat.{◌*◌}
 use Rattle.needrows.specs.Rows.{without_row}
 use Rattle.needrows.specs.Laws.{part-cleared}

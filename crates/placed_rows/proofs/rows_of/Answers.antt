@@ -1,20 +1,10 @@
 -- `placed_rows::rows_of` meets its contract. Assumes nothing.
-use mathlib.Core.Path.{◌≡◌, refl}
-use native.Mathlib.Omega.{arith}
-use Rattle.placed_rows.specs.Seats.{rows_from}
-use Rattle.placed_rows.specs.SeatsLaws.{rows-turn}
+use Rattle.std.proofs.Common.{rules, tests}
+use Rattle.placed_rows.specs.Seats.{row_of}
+use Rattle.placed_rows.proofs.Rows.{rows-same}
 use Rattle.placed_rows.proofs.rows_of.Goals as goal
 
-pub loop-job-init : goal.loop-job-init
-unfolding rows_from
-loop-job-init c = (omega arith, refl)
-
-pub loop-job-preserved : goal.loop-job-preserved
-loop-job-preserved c =
-    let l = c.loop-job in
-    (omega arith, rw l.invariant.1 (rows-turn c.args.slots l.job))
-
 pub returns : goal.returns
-returns c =
-    let e : c.loop-job.job ≡ 8 = omega arith in
-    rw e at c.loop-job.invariant.1
+returns c = rows-same c.args.slots c.map.result c.map.ensures.items.long (λ k h.
+    let w = c.map.ensures.items.at k 0 (row_of 0) h in
+    let e = w.2 in search (rules, tests))

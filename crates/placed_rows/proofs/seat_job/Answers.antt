@@ -4,4 +4,4 @@ use Rattle.placed_rows.proofs.seat_job.Goals as goal
 
 pub returns : goal.returns
 unfolding seat_words
-returns c = rw (c.wide-s.ensures, c.wide-p.ensures)
+returns c = rw (c.from-s.ensures, c.from-p.ensures)

@@ -7,7 +7,7 @@ use Rattle.placed_rows.proofs.seat_jobs.Goals as goal
 
 pub loop-job-init : goal.loop-job-init
 unfolding words_from places_from
-loop-job-init c = (omega arith, refl, refl)
+loop-job-init c = (refl, refl)
 
 pub seat_job-requires : goal.seat_job-requires
 seat_job-requires c =
@@ -19,10 +19,10 @@ loop-job-preserved c =
     let l = c.loop-job in
     let a = c.args in
     let w = words-turn a.seats l.job a.tables.now in
-    (omega arith, rw (c.seat_job.ensures, l.invariant.1) w, rw l.invariant.2 (places-turn a.seats l.job a.places.now))
+    (rw (c.seat_job.ensures, l.invariant.0) w, rw l.invariant.1 (places-turn a.seats l.job a.places.now))
 
 pub returns : goal.returns
 returns c =
     let e : c.loop-job.job ≡ 8 = omega arith in
     let l = c.loop-job.invariant in
-    (rw e at l.1, rw e at l.2)
+    (rw e at l.0, rw e at l.1)

@@ -1,5 +1,4 @@
 -- `placesets::givers_at` meets its contract. Assumes nothing.
-use borrow.Author.Rules.{rules}
 use Rattle.layout.specs.Layout.{tables_in}
 use Rattle.placesets.proofs.givers_at.Goals as goal
 

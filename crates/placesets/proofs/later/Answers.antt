@@ -1,6 +1,5 @@
 -- `placesets::later` meets its contract. Assumes nothing.
 use borrow.Author.Tests.{lt-ltb, le-ltb}
-use borrow.Author.Rules.{rules}
 use Rattle.rules.specs.Basics.{choose}
 use Rattle.layout.specs.Layout.{tables_in}
 use Rattle.placesets.specs.Listing.{later_of}

@@ -1,58 +1,45 @@
 -- `planner::plan_windows` meets its contract. Assumes nothing.
-use borrow.Author.Rules.{rules}
 use mathlib.Core.Path.{◌≡◌, refl, ap, ◌∙◌}
-use Prim.Native.Nat.{ℕ, ◌<◌}
-use native.Mathlib.Omega.{arith}
+use Prim.Native.Nat.{ℕ}
 use lib.ListN.{length, set, replicate, length-replicate}
-use Rattle.seats.specs.Slots.{SeatedAll}
+use Rattle.std.proofs.lemmas.Option.{MatchOption-at_none, MatchOption-at_some}
+use Rattle.std.proofs.lemmas.Result.{err_from_is_err_and}
+use Rattle.refusals.specs.declared.Refusal.TheVariants.{TooWide, NoPlan}
+use Rattle.seats.specs.Slots.{SeatedIn}
 use Rattle.releases.specs.Least.{least_of}
 use Rattle.lengths.specs.Searching.{Search, Found}
 use Rattle.planner.specs.Planner.{first_length}
 use Rattle.planner.specs.Asked.{windows, some-jobs, some-limit, some-boards, given, refused-12, search-asked, refused-13, plan-read}
 use Rattle.planner.proofs.plan_windows.Goals as goal
-use Rattle.planner.proofs.plan_windows.Goals.{After-path-1, After-search-slots, After-seat_all-filled, Start, at-After-path-1, at-After-search-slots, at-After-seat_all-filled}
+use Rattle.planner.proofs.plan_windows.Goals.{In_ok-filled, After-search, at-After-search}
 
--- from the places to the start, and what is known there
-abbrev to_start : After-seat_all-filled → Start
-to_start c = (at-After-seat_all-filled c).Start
+-- the jobs have their places
+seated : (c : In_ok-filled) → SeatedIn (windows c.requires.2) c.args.limit c.in_ok-filled.filled c.seat_all-seated.new.tables c.seat_all-seated.new.places
+seated c = let l = c.requires.2 in MatchOption-at_some _ _ _ c.in_ok-filled.ensures.ok_part (c.seat_all-seated.ensures (windows l) (given l))
 
--- the jobs have their places, or there are too few
-seated : (c : After-seat_all-filled) → let s = c.seat_all-filled in let l = (to_start c).requires.2 in
-    SeatedAll (windows l) (to_start c).args.limit s.result s.new.tables s.new.places
-seated c = let l = (to_start c).requires.2 in c.seat_all-filled.ensures (windows l) (given l)
+-- what the search is asked, from the first length on, and what it finds
+asked : (c : In_ok-filled) (least : ℕ) → least ≡ first_length (least_of c.args.release.now c.args.tail.now c.args.jobs) c.args.jobs c.args.boards
+    → Search (windows c.requires.2) c.args.boards c.in_ok-filled.filled least c.args.limit c.args.jobs
+    (set c.seat_all-seated.new.tables 1284 c.args.boards) c.seat_all-seated.new.places c.args.tail.now (length c.args.work.now) (replicate 64 0)
+asked c least first = search-asked c.requires.2 (seated c) least first _ (replicate 64 0) c.requires.0 (length-replicate {A = ℕ} 64 0)
 
--- from the path to the places, and whether they were enough
-abbrev to-seats : After-path-1 → After-seat_all-filled
-to-seats c = (at-After-path-1 c).After-seat_all-filled
+found : (c : After-search) → Found (windows c.requires.2) c.args.boards c.args.limit c.search.result c.search.new.tables c.search.new.path
+found c =
+    let a = c.args in
+    let first = c.first_length-least.ensures ∙ ap (λ (k : ℕ). first_length k a.jobs a.boards) c.least.ensures in
+    c.search.ensures (windows c.requires.2) a.boards (rw c.from.ensures (asked (at-After-search c).In_ok-filled _ first))
 
-enough : (c : After-path-1) → 0 < (to-seats c).seat_all-filled.result
-enough c = omega (arith, c.if-filled-eq0.false)
+pub seat_all-seated-requires : goal.seat_all-seated-requires
+seat_all-seated-requires c = let l = c.requires.2 in (some-jobs l, some-limit l, refl, refl, (windows l, given l))
 
--- the first length is that of the file's windows, jobs and boards
-first : (c : After-path-1) → let a = (to_start (to-seats c)).args in
-    c.first_length-least.result ≡ first_length (least_of a.release.now a.tail.now a.jobs) a.jobs a.boards
-first c =
-    let a = (to_start (to-seats c)).args in
-    c.first_length-least.ensures
-    ∙ ap (λ (k : ℕ). first_length k a.jobs a.boards) c.least.ensures
-
--- what the search is asked, and what it finds
-asked : (c : After-path-1) → let s = (to-seats c).seat_all-filled in let z = to_start (to-seats c) in let a = z.args in
-    Search (windows z.requires.2) a.boards s.result c.first_length-least.result a.limit a.jobs
-    (set s.new.tables 1284 a.boards) s.new.places a.tail.now (length a.work.now) (replicate 64 0)
-asked c =
-    let z = to_start (to-seats c) in
-    search-asked z.requires.2 (seated (to-seats c)) (enough c) _ (first c) _ (replicate 64 0) z.requires.0 (length-replicate {A = ℕ} 64 0)
-
-found : (c : After-search-slots) → let s = c.search-slots in let z = to_start (to-seats (at-After-search-slots c).After-path-1) in
-    Found (windows z.requires.2) z.args.boards z.args.limit s.result s.new.tables s.new.path
-found c = let z = to_start (to-seats (at-After-search-slots c).After-path-1) in c.search-slots.ensures (windows z.requires.2) z.args.boards (asked (at-After-search-slots c).After-path-1)
-
-pub seat_all-filled-requires : goal.seat_all-filled-requires
-seat_all-filled-requires c = let l = c.requires.2 in (some-jobs l, some-limit l, refl, refl, (windows l, given l))
-
-pub returns-then-filled-eq0 : goal.returns-then-filled-eq0
-returns-then-filled-eq0 c = refused-12 c.requires.2 (seated (goal.at.returns-then-filled-eq0 c).After-seat_all-filled) _ c.if-filled-eq0.true
+pub returns-in_err-filled : goal.returns-in_err-filled
+returns-in_err-filled c =
+    let l = c.requires.2 in
+    let p = err_from_is_err_and c.from_residual.result c.from_residual.ensures.1 in
+    let v = rw c.in_err-filled.ensures.ok_part at c.in_err-filled.ensures.value in
+    let out = MatchOption-at_none _ _ c.in_err-filled.ensures.ok_part (c.seat_all-seated.ensures (windows l) (given l)) in
+    let e : c.in_err-filled.field-0.0 ≡ TooWide = cc in
+    rw (p.1, p.2, e) (refused-12 l _ out)
 
 pub least-requires : goal.least-requires
 least-requires c = c.requires.2.jobs.held.few
@@ -60,22 +47,21 @@ least-requires c = c.requires.2.jobs.held.few
 pub first_length-least-requires : goal.first_length-least-requires
 first_length-least-requires c = let l = c.requires.2 in (some-boards l, l.jobs.held.few)
 
-pub search-slots-requires : goal.search-slots-requires
-search-slots-requires c = let z = to_start (to-seats (goal.at.search-slots-requires c).After-path-1) in (windows z.requires.2, z.args.boards, asked (goal.at.search-slots-requires c).After-path-1)
+pub search-requires : goal.search-requires
+search-requires c =
+    let a = c.args in
+    let first = c.first_length-least.ensures ∙ ap (λ (k : ℕ). first_length k a.jobs a.boards) c.least.ensures in
+    (windows c.requires.2, a.boards, rw c.from.ensures (asked (goal.at.search-requires c).In_ok-filled _ first))
 
-pub shape_of-work-then-slots-eq0 : goal.shape_of-work-then-slots-eq0
-shape_of-work-then-slots-eq0 c = c.search-slots.auto.dead
-
-pub returns-then-slots-eq0 : goal.returns-then-slots-eq0
-returns-then-slots-eq0 c = refused-13 c.requires.2 (seated (to-seats (goal.at.returns-then-slots-eq0 c).After-path-1)) (enough (goal.at.returns-then-slots-eq0 c).After-path-1) (found (goal.at.returns-then-slots-eq0 c).After-search-slots) _ c.if-slots-eq0.true
+pub returns-in_err-slots : goal.returns-in_err-slots
+returns-in_err-slots c =
+    let p = err_from_is_err_and c.from_residual-in_err-slots.result c.from_residual-in_err-slots.ensures.1 in
+    let v = rw c.in_err-slots.ensures.ok_part at c.in_err-slots.ensures.value in
+    let e : c.in_err-slots.field-0.0 ≡ NoPlan = cc in
+    let w = goal.at.returns-in_err-slots c in
+    rw (p.1, p.2, e) (refused-13 c.requires.2 (seated w.In_ok-filled) (found w.After-search) _ c.in_err-slots.ensures.ok_part)
 
 pub write_plan-requires : goal.write_plan-requires
 write_plan-requires c =
-    let p = c.requires in
-    (p.1, plan-read p.2 (seated (to-seats (goal.at.write_plan-requires c).After-path-1)) (enough (goal.at.write_plan-requires c).After-path-1) (found (goal.at.write_plan-requires c).After-search-slots) c.if-slots-eq0.false)
-
-pub shape_of-work : goal.shape_of-work
-shape_of-work c = c.search-slots.auto.dead
-
-pub shape_of-table : goal.shape_of-table
-shape_of-table c = c.write_plan.auto.table
+    let w = goal.at.write_plan-requires c in
+    (c.requires.1, plan-read c.requires.2 (seated w.In_ok-filled) (found w.After-search) _ c.in_ok-slots.ensures.ok_part)

@@ -20,12 +20,12 @@ overflow_cast-count c =
     let l = count-few c.requires.1 _ c.starts_of.ensures _ _
     c.place-count.ensures in search rules
 
-pub write_table-size-requires : goal.write_table-size-requires
-write_table-size-requires c = let p = c.requires in (p.1.jobs.held.few, p.0, job-fields p.1.jobs)
+pub write_table-requires : goal.write_table-requires
+write_table-requires c = let p = c.requires in (p.1.jobs.held.few, p.0, job-fields p.1.jobs)
 
 pub returns : goal.returns
 returns c =
-    let w = c.write_table-size.ensures in
+    let w = c.write_table.ensures in
     table-written c.requires.1 _
     c.starts_of.ensures _ _
     c.place-count.ensures _ _ _ w.size w.bytes

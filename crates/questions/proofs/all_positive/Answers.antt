@@ -1,21 +1,12 @@
 -- `questions::all_positive` meets its contract. Assumes nothing.
-use Rattle.questions.specs.Loops.{positive-no, positive-yes, positive-end}
-use Rattle.rules.specs.Basics.{all}
-use lib.Dec.{leb}
-use lib.ListN.{length, drop}
-use native.Mathlib.Omega.{arith}
-use Prim.Native.Nat.{◌≤◌, ◌-◌}
-use mathlib.Core.Path.{◌≡◌, refl, sym, ◌∙◌}
+use Rattle.std.proofs.Common.{◌∙◌, leb, rules}
+use Rattle.std.proofs.lemmas.Iterator.{YieldsList-from_slice}
+use Rattle.std.proofs.lemmas.Iterator.Search.{all_from_yields_List}
+use borrow.Author.Tests.{tests}
+use Rattle.questions.specs.Loops.{all-is}
 use Rattle.questions.proofs.all_positive.Goals as goal
 
-pub loop-i-init : goal.loop-i-init
-loop-i-init c = (omega arith, refl)
-
-pub returns-then-list-i-eq0 : goal.returns-then-list-i-eq0
-returns-then-list-i-eq0 c = sym (positive-no _ _ c.loop-i-test.true c.if-list-i-eq0.true) ∙ c.loop-i.invariant.1
-
-pub loop-i-preserved : goal.loop-i-preserved
-loop-i-preserved c = (omega arith, sym (positive-yes _ _ c.loop-i-test.true c.if-list-i-eq0.false) ∙ c.loop-i.invariant.1)
-
 pub returns : goal.returns
-returns c = sym (positive-end _ _ c.loop-i-test.false) ∙ c.loop-i.invariant.1
+returns c =
+    all_from_yields_List (leb 1) _ _ _ c.all.ensures.ran (YieldsList-from_slice c.args.list.now cc) (λ x b q k. search (rules, tests))
+    ∙ all-is (leb 1) c.args.list.now

@@ -1,8 +1,6 @@
 -- `questions::sized` meets its contract. Assumes nothing.
 use Rattle.questions.specs.QuestionLaws.{wrong-slots, past-limit, zero-board, wrong-boards, boards-by}
 use Rattle.laws.specs.Counting.{largest-lt}
-use borrow.Author.Tests.{not-true, not-false}
-use borrow.Author.Rules.{rules}
 use native.Mathlib.Omega.{arith}
 use mathlib.Core.Path.{sym, ◌∙◌}
 use Rattle.questions.proofs.sized.Goals as goal
@@ -12,7 +10,7 @@ overflow_add-largest_of c =
     omega (
       arith,
       c.largest_of.ensures,
-      largest-lt c.args.start.now 256 (omega arith) (λ i h. omega (arith, c.shared_slice_known-1.given i)),
+      largest-lt c.args.start.now 256 (omega arith) (λ i h. omega (arith, c.type_inv.start i)),
     )
 
 pub returns-then-slots-largest_of : goal.returns-then-slots-largest_of

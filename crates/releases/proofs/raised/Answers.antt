@@ -3,7 +3,6 @@ use mathlib.Core.Path.{◌≡◌, sym, ◌∙◌}
 use Prim.Native.Nat.{ℕ, ◌+◌, ◌*◌, ◌<◌}
 use native.Mathlib.Omega.{arith}
 use native.Mathlib.Decide.{ℕ_discrete}
-use borrow.Author.Rules.{rules}
 use Rattle.releases.specs.Codes.{raised}
 use Rattle.releases.specs.Gathered.{raised-later, raised-again, raised-before}
 use Rattle.releases.proofs.raised.Goals as goal

@@ -1,7 +1,6 @@
 -- `rows::head_ok` meets its contract. Assumes nothing.
 use Rattle.rows.specs.RowWays.{head-not-whole, head_in, other-head, other-size, edition-in, edition-by}
 use Rattle.laws.specs.Tests.{T_true}
-use borrow.Author.Tests.{not-true, not-false}
 use mathlib.Core.Path.{sym, ◌∙◌}
 use borrow.Author.Rules.{rules}
 use Rattle.rows.proofs.head_ok.Goals as goal

@@ -1,7 +1,6 @@
 -- `rows::row_at` meets its contract. Assumes nothing.
 use Rattle.rows.specs.RowWays.{row-not-whole, other_tag, row-short, row-long, bad-name, row_ends, row-found}
 use Rattle.laws.specs.Tests.{T_true}
-use borrow.Author.Tests.{not-true, not-false}
 use mathlib.Core.Path.{sym, ◌∙◌}
 use borrow.Author.Rules.{rules}
 use Rattle.rows.proofs.row_at.Goals as goal

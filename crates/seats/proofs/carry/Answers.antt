@@ -12,7 +12,7 @@ use Rattle.seats.specs.Bytes.{minus-le}
 use Rattle.seats.specs.Carry.{carried_held, next_mark, stayed, carried}
 use Rattle.seats.specs.Rows.{threes-few}
 use Rattle.seats.proofs.carry.Goals as goal
-use Rattle.seats.proofs.carry.Goals.{After-index-2, After-minus-held, at-After-index-2}
+use Rattle.seats.proofs.carry.Goals.{After-from-2, After-minus-held, at-After-from-2}
 
 -- the places of the slot before are below 8
 byte-before : (c : After-minus-held) → c.set_at-before.result.bits < 256
@@ -34,13 +34,13 @@ byte c =
     omega (arith, byte-before c, minus-le c.set_at-before.result c.set_at.result)
 
 -- .. and where the next row of marks begins
-mark-is : (c : After-index-2) → let a = c.args in
-    c.index-2.result + (c.index.result / 4 + 1) ≡ next_mark a.tables.now (a.slot - 1) a.slot
+mark-is : (c : After-from-2) → let a = c.args in
+    c.from-2.result + (c.from.result / 4 + 1) ≡ next_mark a.tables.now (a.slot - 1) a.slot
 unfolding next_mark
 mark-is c =
     let e = c.set_at-before in
-    ap₂ (λ (x y : ℕ). x + (y / 4 + 1)) c.index-2.ensures
-    (c.index.ensures ∙ c.requires.3.1.threes e.result.bits (byte-before (at-After-index-2 c).After-minus-held) ∙ ap (λ (s : Set). threes s) e.ensures)
+    ap₂ (λ (x y : ℕ). x + (y / 4 + 1)) c.from-2.ensures
+    (c.from.ensures ∙ c.requires.3.1.threes e.result.bits (byte-before (at-After-from-2 c).After-minus-held) ∙ ap (λ (s : Set). threes s) e.ensures)
 
 pub overflow_add-before : goal.overflow_add-before
 overflow_add-before c = let b = byte-before (goal.at.overflow_add-before c).After-minus-held in omega arith
@@ -56,14 +56,16 @@ overflow_cast-tables c = let b = byte (goal.at.overflow_cast-tables c).After-min
 
 pub overflow_cast-tables-2 : goal.overflow_cast-tables-2
 unfolding next_mark
-overflow_cast-tables-2 c = omega (arith, mark-is (goal.at.overflow_cast-tables-2 c).After-index-2, c.requires, threes-few (set_at c.args.tables.now (held_at + (c.args.slot - 1))))
+overflow_cast-tables-2 c =
+    let few = threes-few (set_at c.args.tables.now (held_at + (c.args.slot - 1))) in
+    omega (arith, mark-is (goal.at.overflow_cast-tables-2 c).After-from-2, c.requires, few)
 
 pub stay-requires : goal.stay-requires
 stay-requires c =
     let a = c.args in
     let p = c.requires in
     let one = set a.tables.now (held_at + a.slot) c.minus-held.result.bits in
-    let mark = c.index-2.result + (c.index.result / 4 + 1) in (
+    let mark = c.from-2.result + (c.from.result / 4 + 1) in (
       omega arith,
       omega arith,
       λ q h.
@@ -82,4 +84,4 @@ returns c =
     let b = a.slot - 1 in
     c.stay.ensures
     ∙ ap₂ (λ (s : Set) (m : ℕ). stayed (set (set a.tables.now (held_at + a.slot) s.bits) (marks_at + a.slot + 1) m) b a.slot)
-    (held-is (goal.at.returns c).After-minus-held) (mark-is (goal.at.returns c).After-index-2)
+    (held-is (goal.at.returns c).After-minus-held) (mark-is (goal.at.returns c).After-from-2)

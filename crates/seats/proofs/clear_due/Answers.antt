@@ -1,24 +1,13 @@
--- `seats::clear_due` meets its contract. The due sets below the loop's index are empty. Assumes nothing.
-use mathlib.Core.List.{List}
-use mathlib.Core.Path.{◌≡◌, refl, ap}
-use Prim.Native.Nat.{ℕ, ◌+◌}
-use native.Mathlib.Numerals.{add-one}
-use native.Mathlib.Omega.{arith}
-use lib.ListN.{set}
+-- `seats::clear_due` meets its contract. Assumes nothing.
+use Rattle.std.proofs.Common.{◌≡◌, ◌+◌, ◌-◌, replicate, ap, ◌∙◌, arith, rules}
+use borrow.Rule.Slice.PartMut.{put_mid}
 use Rattle.layout.specs.Layout.{due_at}
-use Rattle.seats.specs.Due.{without_due}
+use Rattle.seats.proofs.Parts.{due_filled}
 use Rattle.seats.proofs.clear_due.Goals as goal
-
-pub loop-slot-init : goal.loop-slot-init
-unfolding without_due
-loop-slot-init c = (omega arith, refl)
-
-pub loop-slot-preserved : goal.loop-slot-preserved
-unfolding without_due
-loop-slot-preserved c = let l = c.loop-slot in (omega arith, rw (add-one l.slot) (ap (λ (x : List ℕ). set x (due_at + l.slot) 0) l.invariant.1))
 
 pub returns : goal.returns
 returns c =
-    let l = c.loop-slot in
-    let e : l.slot ≡ c.args.slots + 1 = omega arith in
-    rw e at l.invariant.1
+    let a = c.args in
+    let n : due_at + a.slots + 1 - due_at ≡ a.slots + 1 = omega arith in
+    let zeros : c.fill.new.self ≡ replicate (a.slots + 1) 0 = search rules in
+    rw n (ap (put_mid due_at (a.slots + 1) a.tables.now) zeros ∙ due_filled a.tables.now (a.slots + 1) (omega arith))

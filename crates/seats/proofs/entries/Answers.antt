@@ -1,23 +1,17 @@
--- `seats::entries` meets its contract. So far the most of the jobs below the loop's index. Assumes nothing.
-use mathlib.Core.Path.{◌≡◌, refl}
-use native.Mathlib.Numerals.{add-one}
-use native.Mathlib.Omega.{arith}
-use Rattle.rules.specs.Basics.{most}
+-- `seats::entries` meets its contract. Assumes nothing.
+use Rattle.std.proofs.Common.{ℕ, ◌+◌, min, take, ap, ◌∙◌, arith, rules, tests}
+use Rattle.std.specs.Option.{unwrap_or}
+use Rattle.std.proofs.lemmas.Iterator.{YieldsList-from_map, YieldsList-from_slice}
+use Rattle.std.proofs.lemmas.Iterator.Consumers.{reduce_from_yields_List}
+use Rattle.std.proofs.lemmas.List.Folds.{max_of_map}
+use Rattle.seats.proofs.Parts.{fold-most}
 use Rattle.seats.proofs.entries.Goals as goal
-
-pub loop-job-init : goal.loop-job-init
-unfolding most
-loop-job-init c = (omega arith, refl)
-
-pub loop-job-preserved : goal.loop-job-preserved
-unfolding most
-loop-job-preserved c =
-    let l = c.loop-job in
-    let w = c.behind.ensures in
-    (omega arith, rw (add-one l.job) (omega (arith, c.greater-slots.ensures, l.invariant.1)))
 
 pub returns : goal.returns
 returns c =
-    let l = c.loop-job in let a = c.args in
-    let e : l.job ≡ a.jobs = omega arith in
-    rw e at l.invariant.1
+    let a = c.args in
+    let f : ℕ → ℕ = λ x. min (x + 1) a.limit in
+    let firsts = take a.jobs a.release.now in
+    let r = reduce_from_yields_List _ _ c.max.result c.max.ensures.ran
+    (YieldsList-from_map _ f (YieldsList-from_slice firsts (cc)) c.map.ensures.closure (λ x r q k. search (rules, tests))) in
+    c.unwrap_or.ensures ∙ ap (λ o. unwrap_or o 0) r ∙ max_of_map f firsts ∙ fold-most f a.release.now a.jobs (omega arith)

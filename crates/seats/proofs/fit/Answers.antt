@@ -10,13 +10,12 @@ use Rattle.seats.specs.Filled.{filled-mark, filled-carry, fitting-place, fitting
 use Rattle.seats.proofs.fit.Goals as goal
 
 pub loop-slot-init : goal.loop-slot-init
-loop-slot-init c = let q = c.requires.1 in (omega arith, omega (arith, q.more), λ W Q. Q.rows, refl)
+loop-slot-init c = (λ W Q. Q.rows, refl)
 
 pub carry-requires : goal.carry-requires
 carry-requires c =
-    let l = c.loop-slot in
     let p = c.requires in
-    let F = l.invariant.2 p.0 p.1 in
+    let F = c.loop-slot.invariant.0 p.0 p.1 in
     (omega (arith, p.1.some), omega (arith, p.1.few), filled-mark F (omega (arith, p.1.few)), (p.0.n, F.rows.small))
 
 pub loop-slot-preserved : goal.loop-slot-preserved
@@ -25,15 +24,13 @@ loop-slot-preserved c =
     let p = c.requires in
     let few = p.1.few in
     let e : l.slot ≡ suc (l.slot - 1) = omega (arith, p.1.some) in
-    let b = carried-is p.0.n l.tables (l.slot - 1) l.slot e (omega arith) (l.invariant.2 p.0 p.1).rows.small in (
-      omega arith,
-      omega arith,
-      λ W Q. rw (add-one l.slot, c.carry.ensures) (filled-carry Q.leads (l.slot - 1) e (omega (arith, Q.few)) (l.invariant.2 W Q)),
-      rw c.carry.ensures (b.other cap_at (λ z. omega arith) (λ z. omega arith) (λ q h z. omega arith) (λ q h z. omega arith)) ∙ l.invariant.3,
+    let b = carried-is p.0.n l.tables (l.slot - 1) l.slot e (omega arith) (l.invariant.0 p.0 p.1).rows.small in (
+      λ W Q. rw (add-one l.slot, c.carry.ensures) (filled-carry Q.leads (l.slot - 1) e (omega (arith, Q.few)) (l.invariant.0 W Q)),
+      rw c.carry.ensures (b.other cap_at (λ z. omega arith) (λ z. omega arith) (λ q h z. omega arith) (λ q h z. omega arith)) ∙ l.invariant.1,
     )
 
 pub clear_due-requires : goal.clear_due-requires
-clear_due-requires c = omega (arith, c.requires.1.few)
+clear_due-requires c = c.requires.1.few
 
 pub set_due-requires : goal.set_due-requires
 set_due-requires c =
@@ -47,7 +44,7 @@ set_due-requires c =
         p.0.n,
         rw c.clear_due.ensures
             (without-small p.0.n l.tables (c.args.slots + 1) (omega (arith, Q.few))
-            (l.invariant.2 p.0 Q).rows.small),
+            (l.invariant.0 p.0 Q).rows.small),
       ),
     )
 
@@ -58,5 +55,6 @@ pub returns : goal.returns
 unfolding due_sets
 returns c =
     let l = c.loop-slot in
+    let more = c.requires.1.more in
     let e : l.slot ≡ c.args.slots = omega arith in
-    λ W Q. rw (c.set_due.ensures, c.clear_due.ensures) (fitted Q (rw e at (l.invariant.2 W Q)) l.invariant.3)
+    λ W Q. rw (c.set_due.ensures, c.clear_due.ensures) (fitted Q (rw e at (l.invariant.0 W Q)) l.invariant.1)

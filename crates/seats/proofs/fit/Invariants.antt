@@ -1,5 +1,4 @@
 use mathlib.Core.Path.{◌≡◌}
-use Prim.Native.Nat.{◌-◌, ◌≤◌}
 use Rattle.rules.specs.Basics.{at}
 use Rattle.layout.specs.Layout.{cap_at}
 use Rattle.places.specs.Windows.{Windows}
@@ -7,8 +6,6 @@ use Rattle.seats.specs.Filled.{Filled, Fitting}
 use Rattle.seats.proofs.fit.Given as goal
 
 abbrev pub invariant-loop-slot : goal.invariant-loop-slot
-invariant-loop-slot l = (l.filled ≤ l.slot) × (l.slot ≤ l.slots) ×
-    ((W : Windows) → Fitting W l.filled l.slots l.jobs l.initial.tables l.places l.tail → Filled W l.slot l.tables) × (at l.tables cap_at ≡ at l.initial.tables cap_at)
-
-abbrev pub decreases-loop-slot : goal.decreases-loop-slot
-decreases-loop-slot l = l.slots - l.slot
+invariant-loop-slot l =
+    ((W : Windows) → Fitting W l.filled l.slots l.jobs l.initial.tables l.places l.tail → Filled W l.slot l.tables)
+    × (at l.tables cap_at ≡ at l.initial.tables cap_at)

@@ -26,12 +26,12 @@ left c =
     let r = c.requires.0 in
     let k = prev_at + 8 * (slot - 1) + p in
     c.minus-left.ensures ∙ ap (λ (G : Set). minus G ended) (c.set_at-givers.ensures
-    ∙ same_set (ap (λ (x : List ℕ). at x k) c.loop-p.invariant.1
+    ∙ same_set (ap (λ (x : List ℕ). at x k) c.loop-p.invariant
     ∙ row_other (prev_at + 8 * slot) (left_at words (slot - 1) ended) words p k (λ q z e. omega arith)))
 
 pub loop-p-init : goal.loop-p-init
 unfolding with_row
-loop-p-init c = (omega arith, refl)
+loop-p-init c = refl
 
 pub overflow_cast-tables : goal.overflow_cast-tables
 overflow_cast-tables c =
@@ -50,15 +50,12 @@ unfolding with_row left_at
 loop-p-preserved c =
     let a = c.args in
     let l = c.loop-p in
-    let h = c.loop-p-test.true in (
-      omega arith,
-      rw (add-one l.p)
-          (ap₂ (λ (x : List ℕ) (v : ℕ). set x (prev_at + 8 * a.slot + l.p) v) l.invariant.1 (ap (λ (s : Set). s.bits) (left (goal.at.loop-p-preserved c).After-minus-left))),
-    )
+    let e = ap (λ (s : Set). s.bits) (left (goal.at.loop-p-preserved c).After-minus-left) in
+    rw (add-one l.p) (ap₂ (λ (x : List ℕ) (v : ℕ). set x (prev_at + 8 * a.slot + l.p) v) l.invariant e)
 
 pub loop-q-init : goal.loop-q-init
 unfolding with_row
-loop-q-init c = (omega arith, refl)
+loop-q-init c = refl
 
 pub loop-q-preserved : goal.loop-q-preserved
 unfolding with_row job_at
@@ -68,11 +65,9 @@ loop-q-preserved c =
     let h = c.loop-q-test.true in
     let r = c.requires.0 in
     let t = c.loop-p.tables in
-    let k = who_at + 8 * (a.slot - 1) + l.q in (
-      omega arith,
-      rw (add-one l.q) (ap₂ (λ (x : List ℕ) (v : ℕ). set x (who_at + 8 * a.slot + l.q) v) l.invariant.1 (ap (λ (x : List ℕ). at x k) l.invariant.1
-          ∙ row_other (who_at + 8 * a.slot) (job_at t (a.slot - 1)) t l.q k (λ p z e. omega arith))),
-    )
+    let k = who_at + 8 * (a.slot - 1) + l.q in
+    rw (add-one l.q) (ap₂ (λ (x : List ℕ) (v : ℕ). set x (who_at + 8 * a.slot + l.q) v) l.invariant (ap (λ (x : List ℕ). at x k) l.invariant
+    ∙ row_other (who_at + 8 * a.slot) (job_at t (a.slot - 1)) t l.q k (λ p z e. omega arith)))
 
 pub returns : goal.returns
 unfolding stayed givers_stay
@@ -82,9 +77,7 @@ returns c =
     let b = a.slot - 1 in
     let l = c.loop-p in
     let m = c.loop-q in
-    let h = c.loop-p-test.false in
-    let g = c.loop-q-test.false in
     let e : l.p ≡ 8 = omega arith in
     let f : m.q ≡ 8 = omega arith in
-    (rw f at m.invariant.1) ∙ ap (λ (x : List ℕ). with_row (who_at + 8 * a.slot) (job_at x b) 8 x)
-    ((rw e at l.invariant.1) ∙ ap (λ (s : Set). with_row (prev_at + 8 * a.slot) (left_at words b s) 8 words) c.set_at-ended.ensures)
+    (rw f at m.invariant) ∙ ap (λ (x : List ℕ). with_row (who_at + 8 * a.slot) (job_at x b) 8 x)
+    ((rw e at l.invariant) ∙ ap (λ (s : Set). with_row (prev_at + 8 * a.slot) (left_at words b s) 8 words) c.set_at-ended.ensures)

@@ -1,54 +1,49 @@
 -- `slotboards::inherit_all` meets its contract. Assumes nothing.
-use mathlib.Core.Path.{refl, sym, ap, ◌∙◌}
-use Rattle.std.specs.Prelude.{not}
-use borrow.Author.Rules.{rules}
-use Rattle.jobset.specs.Members.{Turn, turn, end}
+use Rattle.std.proofs.Common.{refl, sym, ap, ◌∙◌, ℕ, List}
+use mathlib.Core.List.{Memᴰ}
+use Rattle.jobset.specs.Sets.{members}
+use Rattle.jobset.specs.Members.{in_members}
 use Rattle.layout.specs.Layout.{tables_in}
-use Rattle.slotboards.specs.Turns.{each_turn, each-end, inherit-below, here-less}
-use Rattle.slotboards.specs.Placing.{Filling, filling, inherited, others_of}
+use Rattle.slotboards.specs.Turns.{inherit-below}
+use Rattle.slotboards.specs.Placing.{Filling, filling, inherit, leave, each, inherited, others_of}
 use Rattle.slotboards.proofs.inherit_all.Goals as goal
-use Rattle.slotboards.proofs.inherit_all.Goals.{After-lowest-p}
 
-turned : (c : After-lowest-p) → Turn c.loop-last.rest c.lowest-p.result
-turned c =
-    let l = c.loop-last in
-    turn l.rest c.is_empty.result c.lowest-p.result l.invariant.0 c.is_empty.ensures (ap not c.loop-last-test.true)
-    c.lowest-p.ensures
-
-pub loop-last-init : goal.loop-last-init
-loop-last-init c = (search rules, c.requires.3, c.requires.1, refl, refl)
+pub loop-p-init : goal.loop-p-init
+loop-p-init c =
+    let p = c.requires in
+    rw c.into_iter-p-iterator.ensures (p.3, λ q m. p.1 q ((in_members c.args.jobs q).0 m).1, refl, refl)
 
 pub inherit-z-requires : goal.inherit-z-requires
 inherit-z-requires c =
-    let l = c.loop-last in
+    let l = c.loop-p in
     let p = c.requires in
-    let w = l.invariant.2 c.lowest-p.result (turned (goal.at.inherit-z-requires c).After-lowest-p).is_member in
-    (p.0, w.0, w.1, p.2, l.invariant.1)
+    let w = l.invariant.1 c.in-Some.p (rw c.in-Some.ensures.steps (Memᴰ.head refl)) in
+    (p.0, w.0, w.1, p.2, l.invariant.0)
 
-pub rest-rest-requires : goal.rest-rest-requires
-rest-rest-requires c = (turned (goal.at.rest-rest-requires c).After-lowest-p).not-empty
-
-pub loop-last-smaller : goal.loop-last-smaller
-loop-last-smaller c = rw (c.rest-rest.ensures, (turned (goal.at.loop-last-smaller c).After-lowest-p).rest-is) (turned (goal.at.loop-last-smaller c).After-lowest-p).less
-
-pub loop-last-preserved : goal.loop-last-preserved
-loop-last-preserved c =
-    let l = c.loop-last in
+pub loop-p-preserved : goal.loop-p-preserved
+unfolding each
+loop-p-preserved c =
+    let l = c.loop-p in
     let a = c.args in
-    let p = c.lowest-p.result in
-    let u = turned (goal.at.loop-last-preserved c).After-lowest-p in
+    let A = tables_in a.tables.now in
     let e = c.inherit-z.ensures in
-    let b = inherit-below (tables_in a.tables.now) a.slot a.last p (filling l.z.free l.boards) l.invariant.1 in (
-      search rules,
+    let s = c.in-Some.ensures.steps in
+    let left = members c.next.new.self.rest in
+    let now = filling l.z.free l.boards in
+    let b = inherit-below A a.slot a.last c.in-Some.p now l.invariant.0 in (
       rw (ap (λ (w : Filling). w.boards) e.0) b,
-      rw (c.rest-rest.ensures, u.rest-is) (here-less a.tables.now a.slot l.rest p l.invariant.2),
-      rw (c.rest-rest.ensures, u.rest-is) (each_turn _ _ _ _ _ u e.0 ∙ l.invariant.3),
-      rw (c.rest-rest.ensures, u.rest-is) (each_turn _ _ _ _ _ u e.1 ∙ l.invariant.4),
+      λ q m. l.invariant.1 q (rw s (Memᴰ.tail m)),
+      ap (each (inherit A a.slot a.last) left) e.0 ∙ ap (λ (ps : List ℕ). each (inherit A a.slot a.last) ps now) (sym s) ∙ l.invariant.2,
+      ap (each (leave A a.slot a.last) left) e.1 ∙ ap (λ (ps : List ℕ). each (leave A a.slot a.last) ps l.z.others) (sym s) ∙ l.invariant.3,
     )
 
 pub returns : goal.returns
-unfolding inherited others_of
+unfolding inherited others_of each
 returns c =
-    let l = c.loop-last in
-    let e = (end l.rest c.is_empty.result c.is_empty.ensures (ap not c.loop-last-test.false)).no-members in
-    (sym (each-end _ _ _ e) ∙ l.invariant.3, sym (each-end _ _ _ e) ∙ l.invariant.4)
+    let l = c.loop-p in
+    let a = c.args in
+    let A = tables_in a.tables.now in
+    let s = sym c.in-None.ensures.steps.0 in (
+      ap (λ (ps : List ℕ). each (inherit A a.slot a.last) ps (filling l.z.free l.boards)) s ∙ l.invariant.2,
+      ap (λ (ps : List ℕ). each (leave A a.slot a.last) ps l.z.others) s ∙ l.invariant.3,
+    )

@@ -1,55 +1,71 @@
 -- `slotboards::path_of` meets its contract. Assumes nothing.
-use mathlib.Core.Path.{◌≡◌, sym, ◌∙◌}
-use Prim.Native.Nat.{◌<◌}
-use native.Mathlib.Omega.{arith}
+use Rattle.std.proofs.Common.{◌≡◌, sym, ◌∙◌, ◌<◌, ◌≤◌, length, take, arith}
+use Rattle.std.proofs.lemmas.Slice.Zip.{zip_turn, zip_end}
+use Rattle.std.proofs.lemmas.List.{length_push, length-take-le, get_or-take}
 use Rattle.rules.specs.Basics.{at}
 use Rattle.slotboards.specs.Paths.{path-none, path-turn, more_byte}
 use Rattle.slotboards.proofs.path_of.Goals as goal
-use Rattle.slotboards.proofs.path_of.Goals.{In-loop-job}
+use Rattle.slotboards.proofs.path_of.Goals.{In-Some}
 
-in_path : (c : In-loop-job) → let a = c.args in let i = c.loop-job.job in (at a.starts.now i < 64)
-    × (at a.places.now i < 8)
-in_path c = c.requires.1 c.loop-job.job c.loop-job-test.true
+-- the pair of this turn is that of the job behind those that the loop has passed
+record Turn (c : In-Some) : Type 0 where
+  below : length c.loop-start.yielded < c.args.jobs
+  start : c.in-Some.start.now ≡ at c.args.starts.now (length c.loop-start.yielded)
+  place : c.in-Some.place.now ≡ at c.args.places.now (length c.loop-start.yielded)
+  in_path : (c.in-Some.start.now < 64) × (c.in-Some.place.now < 8)
 
-pub loop-job-init : goal.loop-job-init
-loop-job-init c = (omega arith, c.requires.2 ∙ sym (path-none _ _))
+turn : (c : In-Some) → Turn c
+turn c =
+    let a = c.args in
+    let l = c.loop-start in
+    let few : a.jobs ≤ length a.starts.now = omega arith in
+    let n = length-take-le a.jobs a.starts.now few in
+    let firsts = take a.jobs a.starts.now in
+    let t = zip_turn firsts a.places.now l.yielded _ _ c.next.new.self _ (cc) (cc) l.yielded_by _ c.in-Some.is c.next.ensures.steps in
+    let b : length l.yielded < a.jobs = omega (arith, t.0) in
+    let s = t.2 0 ∙ get_or-take a.jobs a.starts.now (length l.yielded) 0 b in
+    let i = c.requires.1 (length l.yielded) b in
+    record {
+      below = b;
+      start = s;
+      place = t.3 0;
+      in_path = (rw s i.0, rw (t.3 0) i.1);
+    }
 
-pub bounds-starts-job : goal.bounds-starts-job
-bounds-starts-job c = omega (arith, c.requires.0)
+pub loop-start-init : goal.loop-start-init
+loop-start-init c = c.requires.2 ∙ sym (path-none _ _)
 
 pub jobs_of-before-requires : goal.jobs_of-before-requires
-jobs_of-before-requires c = rw c.wide-slot.ensures (in_path (goal.at.jobs_of-before-requires c).In-loop-job).0
-
-pub bounds-places-job : goal.bounds-places-job
-bounds-places-job c = omega (arith, c.requires.0)
+jobs_of-before-requires c = rw c.from-slot.ensures (turn (goal.at.jobs_of-before-requires c).In-Some).in_path.0
 
 pub with-after-requires : goal.with-after-requires
-with-after-requires c = omega (arith, c.wide.ensures, (in_path (goal.at.with-after-requires c).In-loop-job).1)
+with-after-requires c = omega (arith, c.from.ensures, (turn (goal.at.with-after-requires c).In-Some).in_path.1)
 
 pub overflow_cast-path : goal.overflow_cast-path
 overflow_cast-path c =
-    let l = c.loop-job in
-    let w = more_byte c.args.starts.now c.args.places.now c.args.jobs l.job c.requires.1
-    c.loop-job-test.true in
-    let e = c.jobs_of-before.ensures in
-    let f = c.wide-slot.ensures in
-    let q : c.with-after.result.bits < 256 = rw (c.with-after.ensures, c.wide.ensures, e, f, l.invariant.1) w in
+    let l = c.loop-start in
+    let t = turn (goal.at.overflow_cast-path c).In-Some in
+    let w = more_byte c.args.starts.now c.args.places.now c.args.jobs (length l.yielded) c.requires.1 t.below in
+    let q : c.with-after.result.bits < 256 =
+    rw (c.with-after.ensures, c.from.ensures, c.jobs_of-before.ensures, c.from-slot.ensures, l.invariant, t.start, t.place) w in
     omega arith
 
 pub bounds-path-slot : goal.bounds-path-slot
-bounds-path-slot c = rw c.wide-slot.ensures (in_path (goal.at.bounds-path-slot c).In-loop-job).0
+bounds-path-slot c = rw c.from-slot.ensures (turn (goal.at.bounds-path-slot c).In-Some).in_path.0
 
-pub overflow_add-job : goal.overflow_add-job
-overflow_add-job c = omega (arith, c.requires.0)
-
-pub loop-job-preserved : goal.loop-job-preserved
-loop-job-preserved c =
-    let l = c.loop-job in
-    let e = c.jobs_of-before.ensures in
-    let f = c.wide-slot.ensures in
-    (omega arith, rw (c.with-after.ensures, c.wide.ensures, e, f, l.invariant.1) (path-turn _ _ _))
+pub loop-start-preserved : goal.loop-start-preserved
+loop-start-preserved c =
+    let l = c.loop-start in
+    let t = turn (goal.at.loop-start-preserved c).In-Some in
+    rw (length_push, c.with-after.ensures, c.from.ensures, c.jobs_of-before.ensures, c.from-slot.ensures, l.invariant, t.start, t.place)
+    (path-turn _ _ _)
 
 pub returns : goal.returns
 returns c =
-    let e : c.loop-job.job ≡ c.args.jobs = omega arith in
-    rw e at c.loop-job.invariant.1
+    let a = c.args in
+    let l = c.loop-start in
+    let few : a.jobs ≤ length a.starts.now = omega arith in
+    let firsts = take a.jobs a.starts.now in
+    let t = zip_end firsts a.places.now l.yielded _ _ c.next.new.self _ (cc) (cc) l.yielded_by c.in-None.is c.next.ensures.steps in
+    let e : length l.yielded ≡ a.jobs = omega (arith, t, length-take-le a.jobs a.starts.now few) in
+    rw e at l.invariant

@@ -24,47 +24,44 @@ abbrev before : (c : In-loop-slot) → List ℕ
 before c = place_slots (tables_in c.args.tables.now) c.args.path.now c.loop-slot.slot blank
 
 given : (c : In-loop-slot) → Given c.requires.0.0 (plan c).needs (plan c).starts c.loop-slot.slot (before c)
-given c = slots-given (plan c) c.loop-slot.slot c.loop-slot.invariant.0
+given c = slots-given (plan c) c.loop-slot.slot (omega arith)
 
 pub loop-slot-init : goal.loop-slot-init
-loop-slot-init c = (omega arith, c.requires.1 ∙ sym (slots-none _ _ _), sym (last_none _))
+loop-slot-init c = (c.requires.1 ∙ sym (slots-none _ _ _), sym (last_none _))
 
 pub jobs_of-jobs-requires : goal.jobs_of-jobs-requires
 jobs_of-jobs-requires c = few (goal.at.jobs_of-jobs-requires c).In-loop-slot
 
 pub inherit_all-z-requires : goal.inherit_all-z-requires
 inherit_all-z-requires c =
-    let l = c.loop-slot in (
-      few (goal.at.inherit_all-z-requires c).In-loop-slot,
-      rw c.jobs_of-jobs.ensures (here_in (plan (goal.at.inherit_all-z-requires c).In-loop-slot) l.slot c.loop-slot-test.true),
-      rw l.invariant.2 (last-in (plan (goal.at.inherit_all-z-requires c).In-loop-slot) l.slot c.loop-slot-test.true),
-      rw l.invariant.1 (given (goal.at.inherit_all-z-requires c).In-loop-slot).small,
+    let l = c.loop-slot in
+    let i = (goal.at.inherit_all-z-requires c).In-loop-slot in (
+      few i,
+      rw c.jobs_of-jobs.ensures (here_in (plan i) l.slot c.loop-slot-test.true),
+      rw l.invariant.1 (last-in (plan i) l.slot c.loop-slot-test.true),
+      rw l.invariant.0 (given i).small,
     )
 
 pub take_lowest-requires : goal.take_lowest-requires
 take_lowest-requires c =
     let l = c.loop-slot in
-    let e = c.inherit_all-z.ensures in (
-      few (goal.at.take_lowest-requires c).In-loop-slot,
-      rw (e.1, l.invariant.2, c.jobs_of-jobs.ensures) (others-listable (plan (goal.at.take_lowest-requires c).In-loop-slot) l.slot c.loop-slot-test.true (before (goal.at.take_lowest-requires c).In-loop-slot) (given (goal.at.take_lowest-requires c).In-loop-slot)),
-      rw (e.0, e.1, l.invariant.2, l.invariant.1, c.jobs_of-jobs.ensures)
-          (others-fit (plan (goal.at.take_lowest-requires c).In-loop-slot) l.slot c.loop-slot-test.true (before (goal.at.take_lowest-requires c).In-loop-slot) (given (goal.at.take_lowest-requires c).In-loop-slot)),
+    let e = c.inherit_all-z.ensures in
+    let i = (goal.at.take_lowest-requires c).In-loop-slot in (
+      few i,
+      rw (e.1, l.invariant.1, c.jobs_of-jobs.ensures) (others-listable (plan i) l.slot c.loop-slot-test.true (before i) (given i)),
+      rw (e.0, e.1, l.invariant.1, l.invariant.0, c.jobs_of-jobs.ensures) (others-fit (plan i) l.slot c.loop-slot-test.true (before i) (given i)),
     )
-
-pub overflow_add-slot : goal.overflow_add-slot
-overflow_add-slot c = omega (arith, few (goal.at.overflow_add-slot c).In-loop-slot)
 
 pub loop-slot-preserved : goal.loop-slot-preserved
 unfolding place_slot
 loop-slot-preserved c =
     let l = c.loop-slot in
     let e = c.inherit_all-z.ensures in (
-      omega arith,
-      rw (c.take_lowest.ensures, e.0, e.1, l.invariant.2, l.invariant.1, c.jobs_of-jobs.ensures) (slots-turn _ _ _ _),
+      rw (c.take_lowest.ensures, e.0, e.1, l.invariant.1, l.invariant.0, c.jobs_of-jobs.ensures) (slots-turn _ _ _ _),
       c.jobs_of-jobs.ensures ∙ last_turn _ _,
     )
 
 pub returns : goal.returns
 returns c =
     let e : c.loop-slot.slot ≡ c.args.slots = omega arith in
-    rw e at c.loop-slot.invariant.1
+    rw e at c.loop-slot.invariant.0

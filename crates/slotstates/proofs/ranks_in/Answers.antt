@@ -1,30 +1,28 @@
 -- `slotstates::ranks_in` meets its contract. Assumes nothing.
-use borrow.Author.Rules.{rules}
-use mathlib.Core.Path.{ap, ◌∙◌}
-use Prim.Native.Nat.{ℕ}
+use Rattle.std.proofs.Common.{◌≡◌, ap, ◌∙◌, ℕ, ◌-◌, arith}
 use Rattle.laws.specs.Width.{window}
-use Rattle.slotstates.specs.Ranks.{ranked, times, RankedSoFar, ranked-start, ranked-yes, ranked-no, ranked-end}
+use Rattle.slotstates.specs.Ranks.{ranked, ranked-start, ranked-end}
+use Rattle.slotstates.proofs.Jobs.{job-yes, job-no}
 use Rattle.slotstates.proofs.ranks_in.Goals as goal
+use Rattle.slotstates.proofs.ranks_in.Goals.{then-holds, else-holds}
 
-pub loop-left-init : goal.loop-left-init
-loop-left-init c = ranked-start _ _ c.requires.2
+pub loop-job-init : goal.loop-job-init
+loop-job-init c = let e : c.args.jobs - 0 ≡ c.args.jobs = omega arith in rw e (ranked-start _ _ c.requires.2)
 
-pub ranked-z-requires : goal.ranked-z-requires
+pub ranked-ranks-requires : goal.ranked-ranks-requires
 unfolding window
-ranked-z-requires c =
-    let l = c.loop-left in
-    (ranked-yes _ _ l.invariant c.loop-left-test.true _ c.holds.ensures c.if-holds.true).0
+ranked-ranks-requires c = (job-yes _ _ _ c.loop-job.invariant c.loop-job-test.true _ c.holds.ensures c.if-holds.true).0
 
-pub loop-left-preserved-then-holds : goal.loop-left-preserved-then-holds
+pub loop-job-preserved : goal.loop-job-preserved
 unfolding window
-loop-left-preserved-then-holds c =
-    let l = c.loop-left in
-    let turn = ranked-yes _ _ l.invariant c.loop-left-test.true _ c.holds.ensures c.if-holds.true in
-    turn.1 _ (c.ranked-z.ensures ∙ ap (λ (s : ℕ). ranked c.args.slot s l.z) c.wide.ensures)
-
-pub loop-left-preserved : goal.loop-left-preserved
-unfolding window
-loop-left-preserved c = ranked-no _ _ c.loop-left.invariant c.loop-left-test.true _ c.holds.ensures c.if-holds.false
+loop-job-preserved c =
+    let l = c.loop-job in
+    elim c.if-holds.branch [
+      | then-holds w ↦
+          (job-yes _ _ _ l.invariant c.loop-job-test.true _ c.holds.ensures w.if-holds.true).1 _
+          (w.ranks-is ∙ w.ranked-ranks.ensures ∙ ap (λ (s : ℕ). ranked c.args.slot s l.ranks) w.from.ensures)
+      | else-holds w ↦ rw w.ranks-is (job-no _ _ _ l.invariant c.loop-job-test.true _ c.holds.ensures w.if-holds.false)
+    ]
 
 pub returns : goal.returns
-returns c = ranked-end _ _ c.loop-left.invariant c.loop-left-test.false
+returns c = ranked-end _ _ c.loop-job.invariant (omega (arith, c.loop-job-test.false))

@@ -1,11 +1,18 @@
 -- `small::agreed` meets its contract. Assumes nothing.
-use mathlib.Core.Path.{sym, ◌∙◌}
-use borrow.Author.Rules.{rules}
-use Rattle.small.specs.LineLaws.{slots-agree, slots-differ}
+use Rattle.std.proofs.Common.{sym, ◌∙◌}
+use Rattle.small.proofs.Missing.{both-same, both-differ, no-least, no-plan}
 use Rattle.small.proofs.agreed.Goals as goal
 
-pub returns-then-wide-least : goal.returns-then-wide-least
-returns-then-wide-least c = slots-differ _ _ (λ same. c.if-wide-least.true (c.wide.ensures ∙ same))
+pub returns-in-Some-Some : goal.returns-in-Some-Some
+returns-in-Some-Some c =
+    both-same c.args.planned c.args.least _ _ c.in-Some-Some.is-0 c.in-Some-Some.is-1 (sym c.from.ensures ∙ c.if-from-fewest.true)
 
-pub returns : goal.returns
-returns c = slots-agree _ _ (sym c.wide.ensures ∙ c.if-wide-least.false)
+pub returns-in_default : goal.returns-in_default
+returns-in_default c =
+    both-differ c.args.planned c.args.least _ _ c.in-Some-Some.is-0 c.in-Some-Some.is-1 (λ e. c.if-from-fewest.false (c.from.ensures ∙ e))
+
+pub returns-in_default-2 : goal.returns-in_default-2
+returns-in_default-2 c = no-least c.args.planned c.args.least _ c.in_default.is-0 c.in_default.is-1
+
+pub returns-in_default-3 : goal.returns-in_default-3
+returns-in_default-3 c = no-plan c.args.planned c.args.least c.in_default.is-0

@@ -4,10 +4,10 @@ use mathlib.Core.List.{List}
 use Prim.Native.Nat.{ℕ, ◌≤◌}
 use native.Mathlib.Nat.{mul-le-mul}
 use native.Mathlib.Omega.{arith}
-use borrow.Author.Rules.{rules}
 use lib.ListN.{length, take}
-use Rattle.rules.specs.SmallGates.{gate_file, planned_slots, or_zero}
+use Rattle.rules.specs.SmallGates.{gate_file, planned_slots}
 use Rattle.laws.specs.SmallFiles.{gate-file-length, needs-at-most}
+use Rattle.needsets.specs.Starts.{as_option}
 use Rattle.small.specs.PlannedLaws.{file-fits, file-part, table-slots, refused-slots}
 use Rattle.small.proofs.planned.Goals as goal
 use Rattle.small.proofs.planned.Goals.{After-put_file-size}
@@ -35,16 +35,17 @@ slice_bounds-file-end c =
 pub slice_bounds-plan-end : goal.slice_bounds-plan-end
 slice_bounds-plan-end c = c.put_file-size.ensures.size ∙ sym (ap length (the-file (goal.at.slice_bounds-plan-end c).After-put_file-size))
 
-pub returns-in-Table : goal.returns-in-Table
-returns-in-Table c =
-    let p = c.plan-p in
-    table-slots _ _ _ _ _ _ p.ensures _ c.in-Table.is
-    ∙ ap (λ (bs : List ℕ). or_zero (planned_slots bs)) (the-file (goal.at.returns-in-Table c).After-put_file-size)
+pub returns-in-Ok : goal.returns-in-Ok
+unfolding as_option
+returns-in-Ok c =
+    let p = c.plan-answer in
+    let the = the-file (goal.at.returns-in-Ok c).After-put_file-size in
+    sym (ap as_option (table-slots _ _ _ _ _ _ p.ensures _ c.in-Ok.is)) ∙ ap (λ (bs : List ℕ). as_option (planned_slots bs)) the
 
-pub returns-in-Refused : goal.returns-in-Refused
-returns-in-Refused c =
-    let p = c.plan-p in
-    refused-slots _ _ _ _ _ _ p.ensures
-    (omega (arith, c.large_buffer-work.ensures)) (omega arith) _
-    c.in-Refused.is
-    ∙ ap (λ (bs : List ℕ). or_zero (planned_slots bs)) (the-file (goal.at.returns-in-Refused c).After-put_file-size)
+pub returns-in-Err : goal.returns-in-Err
+unfolding as_option
+returns-in-Err c =
+    let p = c.plan-answer in
+    let the = the-file (goal.at.returns-in-Err c).After-put_file-size in
+    let none = refused-slots _ _ _ _ _ _ p.ensures (omega (arith, c.large_buffer-work.ensures)) (omega arith) _ c.in-Err.is in
+    sym (ap as_option none) ∙ ap (λ (bs : List ℕ). as_option (planned_slots bs)) the

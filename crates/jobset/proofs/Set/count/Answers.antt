@@ -1,48 +1,28 @@
--- `jobset::Set::count` meets its contract: what is taken and what is left are as many as the set has. Assumes nothing.
-use borrow.Author.Rules.{rules}
-use borrow.Author.Tests.{eqb-true, eq-eqb, not-true, not-false}
-use native.Mathlib.Omega.{arith}
-use mathlib.Core.Path.{◌≡◌, sym, ◌∙◌}
-use mathlib.Core.Logic.{◌≢◌}
-use mathlib.Core.Bool.{false, false≢true}
-use Prim.Native.Nat.{suc, ◌+◌, ◌^◌, ◌<◌, ◌≤◌}
-use lib.Count.{ones-le}
-use Rattle.jobset.specs.Sets.{is_empty, size, next_below}
-use Rattle.jobset.specs.Rest.{next-rest, empty-size, size-rest}
+-- `jobset::Set::count` meets its contract: the iterator gives the members, and they are as many as the size. Assumes nothing.
+use Rattle.std.proofs.Common.{rules, arith, inl, ◌≡◌, ◌≤◌, sym, ap, ◌∙◌, length}
+use Rattle.std.proofs.lemmas.Iterator.Consumers.{count_from_yields_List, YieldsList-from_first}
+use Rattle.jobset.specs.Sets.{members, size}
+use Rattle.jobset.specs.Size.{size-members, size-most}
 use Rattle.jobset.proofs.Set.count.Goals as goal
-use Rattle.jobset.proofs.Set.count.Goals.{After-rest-rest, In-loop-rest, at-After-rest-rest}
+use Rattle.jobset.proofs.Set.count.Goals.{After-into_iter, After-count, at-After-count}
 
--- a turn finds a member
-some_left : (c : In-loop-rest) → is_empty c.loop-rest.rest ≡ false
-some_left c = sym c.is_empty.ensures ∙ c.loop-rest-test.true
+-- the iterator has all members
+all : (c : After-into_iter) → members c.into_iter.result.rest ≡ members c.args.self
+all c = ap members c.into_iter.ensures
 
--- and takes one
-one_less : (c : After-rest-rest) → suc (size c.rest-rest.result) ≡ size c.loop-rest.rest
-one_less c =
-    let s = c.loop-rest.rest in
-    let e : c.rest-rest.result ≡ next_below s s = c.rest-rest.ensures ∙ sym (next-rest s c.loop-rest.invariant.0 (some_left (at-After-rest-rest c).In-loop-rest)) in
-    let z : size s ≢ 0 = λ q. false≢true (sym (sym (empty-size s) ∙ some_left (at-After-rest-rest c).In-loop-rest) ∙ eq-eqb (size s) 0 q) in
-    rw e (size-rest s (omega arith))
+-- they are few
+few : (c : After-into_iter) → length (members c.args.self) ≤ 64
+few c = size-most c.args.self (search rules)
 
-pub loop-rest-init : goal.loop-rest-init
-unfolding size
-loop-rest-init c = (search rules, omega arith, ones-le 64 c.args.self.bits (search rules))
+-- so many were counted
+counted : (c : After-count) → c.count.result ≡ length (members c.args.self)
+counted c = count_from_yields_List _ _ c.count.ensures.ran (YieldsList-from_first (λ x. x) (λ s. members s.rest) _ (all (at-After-count c).After-into_iter))
 
-pub rest-rest-requires : goal.rest-rest-requires
-rest-rest-requires c = some_left (goal.at.rest-rest-requires c).In-loop-rest
+pub count-requires-clause-fits : goal.count-requires-clause-fits
+count-requires-clause-fits c = inl (let d = (goal.at.count-requires-clause-fits c).After-into_iter in rw (all d) (omega (arith, few d)))
 
-pub overflow_add-taken : goal.overflow_add-taken
-overflow_add-taken c = omega (arith, one_less (goal.at.overflow_add-taken c).After-rest-rest, c.loop-rest.invariant)
-
-pub loop-rest-smaller : goal.loop-rest-smaller
-loop-rest-smaller c = omega (arith, one_less (goal.at.loop-rest-smaller c).After-rest-rest)
-
-pub loop-rest-preserved : goal.loop-rest-preserved
-loop-rest-preserved c = (search rules, omega (arith, one_less (goal.at.loop-rest-preserved c).After-rest-rest, c.loop-rest.invariant), c.loop-rest.invariant.2)
+pub overflow_cast-result : goal.overflow_cast-result
+overflow_cast-result c = let d = goal.at.overflow_cast-result c in omega (arith, counted d.After-count, few (at-After-count d.After-count).After-into_iter)
 
 pub returns : goal.returns
-returns c =
-    let l = c.loop-rest in
-    let e : size l.rest ≡ 0 =
-    eqb-true (size l.rest) 0 (sym (empty-size l.rest) ∙ sym c.is_empty.ensures ∙ c.loop-rest-test.false) in
-    omega (arith, l.invariant)
+returns c = counted (goal.at.returns c).After-count ∙ sym (size-members c.args.self (search rules))

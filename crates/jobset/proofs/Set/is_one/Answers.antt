@@ -1,5 +1,4 @@
 -- `jobset::Set::is_one` meets its contract: each way out is one side of the definition's choice. Assumes nothing.
-use borrow.Author.Rules.{rules}
 use borrow.Author.Tests.{eq-eqb, ne_eqb}
 use Rattle.rules.specs.Basics.{choose}
 use Rattle.jobset.specs.Sets.{is_one, is_empty}

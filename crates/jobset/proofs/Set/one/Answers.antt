@@ -1,7 +1,6 @@
 -- `jobset::Set::one` meets its contract: below 64 the shift loses no bit. Assumes nothing.
 use mathlib.Core.Path.{ap}
 use Prim.Native.Nat.{ℕ}
-use borrow.Author.Rules.{rules}
 use Rattle.jobset.specs.Sets.{one}
 use Rattle.jobset.specs.Digits.{shifted_one}
 use Rattle.jobset.proofs.Set.one.Goals as goal

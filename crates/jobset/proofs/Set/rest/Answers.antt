@@ -1,4 +1,5 @@
 -- `jobset::Set::rest` meets its contract: the code's number is that of the next smaller subset. Assumes nothing.
+use Rattle.std.proofs.Common.{rules}
 use native.Mathlib.Omega.{arith}
 use mathlib.Core.Path.{ap, ◌∙◌}
 use Prim.Native.Nat.{ℕ, ◌-◌}
@@ -18,4 +19,4 @@ pub returns : goal.returns
 unfolding next_below
 returns c =
     let s = c.args.self in
-    ap (λ (n : ℕ). record { bits = n }) (and_comm s.bits (s.bits - 1)) ∙ next-rest s c.struct_known-2-1.given.0.fits c.requires
+    ap (λ (n : ℕ). record { bits = n }) (and_comm s.bits (s.bits - 1)) ∙ next-rest s (search rules) c.requires

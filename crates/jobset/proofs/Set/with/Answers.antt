@@ -1,6 +1,5 @@
 -- `jobset::Set::with` meets its contract. Assumes nothing.
 use mathlib.Core.Path.{ap, ◌∙◌}
-use borrow.Author.Rules.{rules}
 use Rattle.jobset.specs.Sets.{with, union}
 use Rattle.jobset.proofs.Set.with.Goals as goal
 

@@ -1,6 +1,5 @@
 -- `jobset::Set::without` meets its contract. Assumes nothing.
 use mathlib.Core.Path.{ap, ◌∙◌}
-use borrow.Author.Rules.{rules}
 use Rattle.jobset.specs.Sets.{without, minus}
 use Rattle.jobset.proofs.Set.without.Goals as goal
 

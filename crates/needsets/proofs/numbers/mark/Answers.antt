@@ -11,9 +11,6 @@ loop-job-init c = bits-start _ _
 pub overflow_mul-next : goal.overflow_mul-next
 overflow_mul-next c = omega (arith, bits_small c.loop-job.invariant c.requires)
 
-pub is_ready-requires : goal.is_ready-requires
-is_ready-requires c = (omega arith, omega arith)
-
 pub overflow_add-next : goal.overflow_add-next
 overflow_add-next c = omega (arith, bits_small c.loop-job.invariant c.requires)
 

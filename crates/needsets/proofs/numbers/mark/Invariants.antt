@@ -4,6 +4,3 @@ use Rattle.needsets.proofs.numbers.mark.Given as goal
 
 abbrev pub invariant-loop-job : goal.invariant-loop-job
 invariant-loop-job l = BitsSoFar (is_ready l.jobs l.number l.marked) l.jobs l.job l.next
-
-abbrev pub decreases-loop-job : goal.decreases-loop-job
-decreases-loop-job l = l.job

@@ -2,6 +2,7 @@
 use mathlib.Core.Path.{◌≡◌, refl, sym, ap, ap₂, ◌∙◌}
 use mathlib.Core.List.{List}
 use Prim.Native.Nat.{ℕ}
+use Rattle.std.proofs.Common.{Option}
 use native.Mathlib.Numerals.{add-one}
 use native.Mathlib.Omega.{arith}
 use lib.ListN.{length}
@@ -15,27 +16,17 @@ use Rattle.needsets.proofs.starts.fewest.Goals.{After-put_starts}
 four : (c : After-put_starts) → length c.put_starts.new.starts ≡ 4
 four c = ap length c.put_starts.ensures ∙ four-digits _ _
 
-pub list_count-many-requires : goal.list_count-many-requires
-list_count-many-requires c = c.requires
-
 pub loop-index-init : goal.loop-index-init
 unfolding fewest_by
-loop-index-init c = (omega arith, refl, refl)
-
-pub put_starts-requires : goal.put_starts-requires
-put_starts-requires c = (omega arith, omega arith, c.loop-index.invariant.1)
-
-pub least_with-least-requires : goal.least_with-least-requires
-least_with-least-requires c = (c.requires.0, c.requires.1, four (goal.at.least_with-least-requires c).After-put_starts)
+loop-index-init c = (refl, refl)
 
 pub loop-index-preserved : goal.loop-index-preserved
 unfolding fewest_by
 loop-index-preserved c =
     let a = c.args in
     let l = c.loop-index in (
-      omega arith,
       four (goal.at.loop-index-preserved c).After-put_starts,
-      c.least_with-least.ensures ∙ ap₂ (λ (t : List ℕ) (x : ℕ). least_with a.jobs a.number t x) c.put_starts.ensures l.invariant.2
+      c.least_with-least.ensures ∙ ap₂ (λ (t : List ℕ) (x : Option ℕ). least_with a.jobs a.number t x) c.put_starts.ensures l.invariant.1
           ∙ ap (fewest_by a.jobs a.number) (sym (add-one l.index)),
     )
 
@@ -45,4 +36,4 @@ returns c =
     let l = c.loop-index in
     let last : l.index ≡ c.list_count-many.result = omega arith in
     let p = c.requires in
-    l.invariant.2 ∙ ap (fewest_by a.jobs a.number) (last ∙ c.list_count-many.ensures) ∙ fewest-is a.jobs a.number p.0 p.1
+    l.invariant.1 ∙ ap (fewest_by a.jobs a.number) (last ∙ c.list_count-many.ensures) ∙ fewest-is a.jobs a.number p.0 p.1

@@ -56,9 +56,11 @@ returns-then-not-is_next c =
 pub returns-then-giver-place : goal.returns-then-giver-place
 returns-then-giver-place c =
     let a = c.args in
-    sym (ap (λ (b : Bool). b || eqb (a.other % a.jobs) (a.place % a.jobs)) (eq-eqb _ _ c.if-giver-place.true)) ∙ by-job (goal.at.returns-then-giver-place c).Else-not-is_next
+    sym (ap (λ (b : Bool). b || eqb (a.other % a.jobs) (a.place % a.jobs)) (eq-eqb _ _ c.if-giver-place.true))
+    ∙ by-job (goal.at.returns-then-giver-place c).Else-not-is_next
 
 pub returns : goal.returns
 returns c =
     let a = c.args in
-    sym (ap (λ (b : Bool). b || eqb (a.other % a.jobs) (a.place % a.jobs)) (ne_eqb _ _ c.if-giver-place.false)) ∙ by-job (goal.at.returns c).Else-not-is_next
+    sym (ap (λ (b : Bool). b || eqb (a.other % a.jobs) (a.place % a.jobs)) (ne_eqb _ _ c.if-giver-place.false))
+    ∙ by-job (goal.at.returns c).Else-not-is_next

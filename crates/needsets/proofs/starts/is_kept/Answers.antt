@@ -44,7 +44,9 @@ returns-then-taker-giver c =
     keeps-not-later a.jobs a.number a.starts.now a.place (need (goal.at.returns-then-taker-giver c).Else-not-is_set) (omega arith)
 
 pub returns-then-not-is_next : goal.returns-then-not-is_next
-returns-then-not-is_next c = keeps-later _ _ _ _ (need (goal.at.returns-then-not-is_next c).Else-not-is_set) (later (goal.at.returns-then-not-is_next c).Else-taker-giver) (sym (next (goal.at.returns-then-not-is_next c).After-is_next) ∙ c.if-not-is_next.true)
+returns-then-not-is_next c =
+    keeps-later _ _ _ _ (need (goal.at.returns-then-not-is_next c).Else-not-is_set) (later (goal.at.returns-then-not-is_next c).Else-taker-giver)
+    (sym (next (goal.at.returns-then-not-is_next c).After-is_next) ∙ c.if-not-is_next.true)
 
 pub returns : goal.returns
 returns c =

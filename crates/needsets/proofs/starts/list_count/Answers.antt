@@ -1,13 +1,15 @@
 -- `needsets::starts::list_count` meets its contract. Assumes nothing.
-use mathlib.Core.Path.{sym, ap}
-use Prim.Native.Nat.{ℕ, ◌^◌}
+use Rattle.std.proofs.Common.{ℕ, ◌^◌, ◌<◌, ◌≤◌, zero, suc, arith, lit<}
 use Rattle.needsets.proofs.starts.list_count.Goals as goal
 
-pub returns-in-1 : goal.returns-in-1
-returns-in-1 c = ap (λ (n : ℕ). n ^ n) (sym c.in-1.is)
+-- four jobs have 256 lists
+few : (n : ℕ) → n ≤ 4 → n ^ n < 2 ^ 64
+few zero h = lit< tt
+few (suc zero) h = lit< tt
+few (suc (suc zero)) h = lit< tt
+few (suc (suc (suc zero))) h = lit< tt
+few (suc (suc (suc (suc zero)))) h = lit< tt
+few (suc (suc (suc (suc (suc n))))) h = absurd (omega arith)
 
-pub returns-in-2 : goal.returns-in-2
-returns-in-2 c = ap (λ (n : ℕ). n ^ n) (sym c.in-2.is)
-
-pub returns-in-3 : goal.returns-in-3
-returns-in-3 c = ap (λ (n : ℕ). n ^ n) (sym c.in-3.is)
+pub pow-requires : goal.pow-requires
+pow-requires c = few c.args.jobs c.requires.1

@@ -8,6 +8,5 @@ use Rattle.needsets.proofs.starts.slots.Goals as goal
 pub returns : goal.returns
 returns c =
     let l = c.args.starts.now in
-    ap (λ (x : ℕ). x + 1)
-    (c.larger-all.ensures ∙ ap (max (at l 0)) (c.larger.ensures ∙ ap (max (at l 1)) c.larger-back.ensures))
+    ap (λ (x : ℕ). x + 1) (c.from.ensures ∙ c.max-last.ensures ∙ ap (max (at l 0)) (c.max-2.ensures ∙ ap (max (at l 1)) c.max.ensures))
     ∙ four-slots l c.requires

@@ -1,8 +1,5 @@
-use Prim.Native.Nat.{◌≤◌, ◌-◌}
+use Rattle.std.specs.Prelude.{◌≤◌}
 use Rattle.printing.proofs.grid.print_slot.Given as goal
 
 abbrev pub invariant-loop-board : goal.invariant-loop-board
-invariant-loop-board l = (l.board ≤ l.boards) × (l.blanks ≤ 13)
-
-abbrev pub decreases-loop-board : goal.decreases-loop-board
-decreases-loop-board l = l.boards - l.board
+invariant-loop-board l = l.blanks ≤ 13

@@ -1,12 +1,10 @@
-use mathlib.Core.Bool.{not}
-use Prim.Native.Nat.{◌+◌, ◌*◌, ◌-◌}
-use lib.Dec.{eqb}
+use Rattle.std.specs.Prelude.{◌≡◌, not, eqb, ◌+◌, ◌*◌, ◌/◌, length, drop}
+use Rattle.std.specs.Slice.Iter.{chunks_exact_rest, chunks_exact_size}
 use Rattle.rules.specs.Basics.{at}
 use Rattle.laws.specs.Loops.{AllSoFar}
 use Rattle.printing.proofs.lines.print.Given as goal
 
-abbrev pub invariant-loop-next : goal.invariant-loop-next
-invariant-loop-next l = AllSoFar (λ i. not (eqb (at l.list (3 * i + 2)) 0)) l.many l.next l.all
-
-abbrev pub decreases-loop-next : goal.decreases-loop-next
-decreases-loop-next l = l.many - l.next
+abbrev pub invariant-loop-line : goal.invariant-loop-line
+invariant-loop-line l =
+    AllSoFar (λ i. not (eqb (at l.list (3 * i + 2)) 0)) (length l.list / 3) (length l.yielded) l.all
+    × (drop (3 * length l.yielded) l.list ≡ chunks_exact_rest l.line-iterator) × (chunks_exact_size l.line-iterator ≡ 3)

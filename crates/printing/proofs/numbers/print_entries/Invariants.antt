@@ -1,8 +1,6 @@
-use Prim.Native.Nat.{◌-◌, ◌≤◌}
+use Rattle.std.proofs.Common.{◌≡◌}
 use Rattle.printing.proofs.numbers.print_entries.Given as goal
 
+-- so many lines are printed as there are bytes below this one
 abbrev pub invariant-loop-byte : goal.invariant-loop-byte
-invariant-loop-byte l = l.byte ≤ 256
-
-abbrev pub decreases-loop-byte : goal.decreases-loop-byte
-decreases-loop-byte l = 256 - l.byte
+invariant-loop-byte l = l.count ≡ l.byte

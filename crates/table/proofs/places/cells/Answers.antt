@@ -1,21 +1,19 @@
 -- `table::places::cells` meets its contract. Assumes nothing.
+use Rattle.std.proofs.Common.{◌≡◌, ◌∙◌, refl, sym}
+use Rattle.std.specs.Option.{unwrap_or}
+use Rattle.rules.specs.Sizes.{max_boards}
+use Rattle.rules.specs.Basics.{choose}
+use Rattle.questions.specs.Questions.{sized_in}
 use Rattle.table.specs.Entries.{cell_number}
 use Rattle.table.specs.Cells.{in_cells}
-use Rattle.questions.specs.Questions.{sized_in}
-use Rattle.rules.specs.Sizes.{max_boards}
-use lib.Dec.{eqb}
-use Rattle.rules.specs.Basics.{choose}
-use borrow.Author.Tests.{not-true, not-false}
-use mathlib.Core.Path.{◌≡◌, refl, sym, ◌∙◌}
-use borrow.Author.Rules.{rules}
 use Rattle.table.proofs.places.cells.Goals as goal
 use Rattle.table.proofs.places.cells.Goals.{After-sized}
 
 -- question 16, with the boards of the file
 sized-is : (c : After-sized)
     → let a = c.args in
-    sized_in a.limit (choose (eqb a.sockets 0) max_boards a.sockets) a.t.slots a.t.boards a.start.now a.board.now ≡ c.sized.result
-sized-is c = rw (← c.most_boards.ensures, ← c.wide-most.ensures) (sym c.sized.ensures)
+    sized_in a.limit (unwrap_or a.sockets max_boards) a.t.slots a.t.boards a.start.now a.board.now ≡ c.sized.result
+sized-is c = rw (← c.most_boards.ensures, ← c.from-most.ensures) (sym c.sized.ensures)
 
 pub returns-then-not-sized : goal.returns-then-not-sized
 unfolding cell_number

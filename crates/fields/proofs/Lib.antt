@@ -1,0 +1,2 @@
+-- What a run over a list says of a test. Assumes nothing.
+pub mod Runs

@@ -1,0 +1,2 @@
+-- The numbers of the refusals. Assumes nothing.
+pub mod Refusals

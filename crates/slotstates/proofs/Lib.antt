@@ -1,0 +1,2 @@
+-- The turns of the loop over the jobs. Assumes nothing.
+pub mod Jobs

@@ -1,0 +1,2 @@
+-- What an answer of the planner leaves in both buffers. Assumes nothing.
+pub mod Buffers
