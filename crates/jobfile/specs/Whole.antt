@@ -1,8 +1,11 @@
 -- The whole file: questions 2 and 10 around its fields. Assumes nothing.
-use Rattle.std.specs.Prelude.{◌≡◌, refl, ◌&&◌, List, ℕ, ◌≤◌, ◌<◌, length, leb, Result, Ok, Err}
+use Rattle.std.specs.Prelude.{◌≡◌, refl, ◌&&◌, List, ℕ, zero, suc, ◌≤◌, ◌<◌, length, leb, eqb, Option, Result, Ok, Err}
+use Rattle.std.specs.Option.{unwrap_or}
 use Rattle.std.proofs.Math.Path.{sym, ap}
 use Rattle.std.proofs.Common.{◌∙◌, arith}
-use Rattle.rules.specs.Sizes.{max_file}
+use borrow.Author.Tests.{ne_eqb}
+use Rattle.rules.specs.Sizes.{max_file, max_boards}
+use Rattle.rules.specs.Basics.{choose}
 use Rattle.rules.specs.Fields.{Answer, refused, got, ask, after, number_of}
 use Rattle.rules.specs.JobFile.{JobFile, complete, read_file}
 use Rattle.laws.specs.Tests.{tests, by-choice}
@@ -12,7 +15,7 @@ use Rattle.refusals.specs.declared.Refusal.{Refusal}
 use Rattle.refusals.specs.declared.Refusal.TheVariants.{LongFile, Incomplete}
 use Rattle.refusals.specs.Refusals.{number, positive}
 use Rattle.jobfile.specs.declared.Counts.{Counts}
-use Rattle.jobfile.specs.Reading.{state_of, answer_of, complete_answer, Held, Same, Reads}
+use Rattle.jobfile.specs.Reading.{given, state_of, answer_of, complete_answer, Held, Same, Reads}
 use Rattle.jobfile.specs.FieldByField.{all_fields}
 
 -- ---- what a reading says
@@ -29,6 +32,12 @@ reads-yes bs c o rows reads =
     let h = reads.held w.0 w.1 in
     let e : h.0 ≡ c = cc in
     (w.0, w.1, rw e at h.2)
+
+-- the most boards are eight where the file gives none
+pub most-given : (sockets : Option ℕ) (b : ℕ) → sockets ≡ given b → unwrap_or sockets max_boards ≡ choose (eqb b 0) max_boards b
+unfolding choose
+most-given sockets zero e = rw e refl
+most-given sockets (suc b) e = rw (e, ne_eqb (suc b) 0 (λ z. omega arith)) refl
 
 -- ---- how it is known
 

@@ -1,5 +1,5 @@
 -- Questions 2 to 13 and 21: a refusal, or what the rest is given. Assumes nothing.
-use Rattle.std.specs.Prelude.{◌≡◌, refl, ◌↔◌, Bool, true, set, drop, replicate, leb, eqb, zero, Option, Some, None, Result, Ok, Err}
+use Rattle.std.specs.Prelude.{◌≡◌, refl, ◌↔◌, Bool, true, set, drop, replicate, leb, Option, Some, None, Result, Ok, Err}
 use Rattle.std.specs.Option.{unwrap_or}
 use Rattle.std.proofs.Math.Path.{sym, ap, ap₂}
 use Rattle.std.proofs.Common.{subst, ◌∙◌, add-mul, one-mul, div-lt_iff_lt-mul, drop_at}
@@ -8,12 +8,11 @@ use mathlib.Core.List.{List, ◌++◌}
 use Rattle.std.proofs.Math.Option.{none}
 use Prim.Native.Nat.{ℕ, suc, ◌+◌, ◌-◌, ◌*◌, ◌/◌, ◌≤◌, ◌<◌}
 use native.Mathlib.Omega.{arith}
-use borrow.Author.Tests.{ne_eqb}
 use Rattle.std.proofs.Math.ListN.{length}
 use Rattle.std.proofs.Math.Seq.{get_or-set_same}
 use Rattle.std.proofs.Math.Dec.{T}
 use Rattle.rules.specs.Sizes.{max_boards, work_size, table_size, max_limit, max_width}
-use Rattle.rules.specs.Basics.{choose, at}
+use Rattle.rules.specs.Basics.{at}
 use Rattle.rules.specs.Fields.{Answer, after}
 use Rattle.rules.specs.Needs as rules
 use Rattle.rules.specs.Needs.{Need, NeedsIn, circle_free}
@@ -31,7 +30,7 @@ use Rattle.dominance.specs.Count.{AtLeast}
 use Rattle.jobfile.specs.declared.Counts.{Counts}
 use Rattle.jobfile.specs.Reading as reading
 use Rattle.jobfile.specs.Reading.{Reads}
-use Rattle.jobfile.specs.Whole.{reads-no, reads-yes}
+use Rattle.jobfile.specs.Whole.{reads-no, reads-yes, most-given}
 use Rattle.jobfile.proofs.Holding.{recounted}
 use Rattle.needrows.specs.Rows.{RowsAre}
 use Rattle.releases.specs.Ordered.{OfNeeds, OrderOf, Peeled}
@@ -78,12 +77,6 @@ module _ {bs o rows : List ℕ} where
           held = recounted bs f _ w.2 f.fields f.fields c.limit f.limit (reading.given f.sockets) f.sockets refl w.2.limit_is refl;
         }
 
-    -- eight boards where the file gives none
-    most-given : (b : ℕ) → unwrap_or (reading.given b) max_boards ≡ choose (eqb b 0) max_boards b
-    unfolding choose
-    most-given zero = refl
-    most-given (suc b) = simp (ne_eqb (suc b) 0 (λ e. omega arith))
-
     -- and the most boards are those that it says
     pub boards-read : (j : JobsRead bs c.jobs c.limit o rows) (b : ℕ) → b ≡ unwrap_or c.sockets max_boards → b ≡ most_boards j.file
     unfolding most_boards
@@ -91,7 +84,7 @@ module _ {bs o rows : List ℕ} where
         let h = reads.held j.file j.read in
         let same : h.0 ≡ c = cc in
         let sockets : c.sockets ≡ reading.given j.file.sockets = rw (← same) h.2.sockets-is in
-        e ∙ ap (λ (k : _). unwrap_or k max_boards) sockets ∙ most-given j.file.sockets
+        e ∙ most-given c.sockets j.file.sockets sockets
 
 -- ---- question 11
 

@@ -169,7 +169,8 @@ module _ {file table : List ℕ} (p : PlannedFor file table) where
                   ∙ ap base_three ((map-agree _ _ (held_jobs N j.file.needs j.file.limit k)).1 (digit-same k)))
 
           -- so written into the buffer they are the report
-          pub bytes-written : (states states' : List ℕ) → states_size ≤ length states → states' ≡ put 0 (slots_bytes (times s releases tails n L) t.slots) states
+          pub bytes-written : (states states' : List ℕ) → states_size ≤ length states
+              → states' ≡ put 0 (slots_bytes (times s releases tails n L) t.slots) states
               → states' ≡ reported (report_on state_bytes file) states
           unfolding reported
           bytes-written states states' room e =

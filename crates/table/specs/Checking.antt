@@ -1,8 +1,8 @@
 -- The ways out of the check, by what it has found out. Assumes nothing.
 use Rattle.std.specs.Prelude.{◌≡◌, Option, None, Result, Ok, Err, Bool, true, false, List, take, drop, leb, eqb}
 use Rattle.std.proofs.Math.Path.{refl, sym, ap}
-use Rattle.std.proofs.Common.{subst, ap₂, ◌∙◌, ne_eqb, length-take-le}
-use Prim.Native.Nat.{ℕ, zero, suc, ◌+◌, ◌≤◌, ◌<◌}
+use Rattle.std.proofs.Common.{subst, ap₂, ◌∙◌, length-take-le}
+use Prim.Native.Nat.{ℕ, ◌+◌, ◌≤◌, ◌<◌}
 use native.Mathlib.Omega.{arith}
 use Rattle.std.proofs.Math.ListN.{length, length-drop}
 use Rattle.std.proofs.Math.Dec.{T}
@@ -10,7 +10,7 @@ use Rattle.std.specs.Option.{unwrap_or}
 use Rattle.refusals.specs.Refusals.{number, no-zero, refusal_number}
 use Rattle.refusals.specs.declared.Refusal.{Refusal}
 use Rattle.rules.specs.Sizes.{max_jobs, max_limit, max_boards}
-use Rattle.rules.specs.Basics.{choose, at}
+use Rattle.rules.specs.Basics.{at}
 use Rattle.rules.specs.Fields.{Answer, refused, got, ask, after, value}
 use Rattle.rules.specs.Needs.{Need, NeedsIn, circle_free}
 use Rattle.rules.specs.JobFile.{JobFile, nth_job, name_ok, most_boards, job_of, read_file}
@@ -25,7 +25,7 @@ use Rattle.laws.specs.Check.{q15, q16, q18}
 use Rattle.laws.specs.Decoded.{row_number, decoded_table}
 use Rattle.laws.proofs.Refusals.{read-got}
 use Rattle.laws.specs.Numbers.{bytes-all}
-use Rattle.jobfile.specs.Reading.{given, state_of, Held, Reads}
+use Rattle.jobfile.specs.Reading.{state_of, Held, Reads}
 use Rattle.needrows.specs.Rows.{rows_size, RowsAre}
 use Rattle.releases.specs.Ordered.{OfNeeds}
 use Rattle.rows.specs.Rows.{Few, Decodes}
@@ -33,6 +33,7 @@ use Rattle.rows.specs.RowWays.{IsRow, row_is}
 use Rattle.questions.specs.Questions.{labelled_by, Placed, labelled_in, RowsIn, rows_kept}
 use Rattle.questions.specs.QuestionLaws.{kept-is, rows_in}
 use Rattle.table.specs.Cells.{Lines, LinesRead, starts_in, boards_in, cells_in, lines_long, cells-yes, cells-no}
+use Rattle.jobfile.specs.Whole.{most-given}
 use Rattle.table.specs.Entries.{passed_of}
 use Rattle.rows.specs.declared.Rows.{Rows}
 use Rattle.jobfile.specs.declared.Counts.{Counts}
@@ -124,11 +125,6 @@ file-refused file table q reads e = rw (number-refused (read_file file) (number 
 
 ok-same : {a b : Counts} → ◌≡◌ {A = Result Counts Refusal} (Ok a) (Ok b) → a ≡ b
 ok-same e = cc
-
-most-given : (sockets : Option ℕ) (n : ℕ) → sockets ≡ given n → unwrap_or sockets max_boards ≡ choose (eqb n 0) max_boards n
-unfolding choose
-most-given sockets zero e = rw e refl
-most-given sockets (suc k) e = rw (e, ne_eqb (suc k) 0 (λ z. omega arith)) refl
 
 module _ {g : Given} (read : FileRead g) where
   -- what the file says
