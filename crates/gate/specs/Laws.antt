@@ -89,14 +89,16 @@ name-at bs s b = go (lookup bs s b) refl
 
 -- ---- the lookup's refusals
 
--- the number of a refusal is that of the rules' answer
+-- the number of what the lookup finds is that of the rules' answer
+pub number-found : (x : Answer ℕ) → number_of (found_of x) ≡ number_of x
+unfolding number_of found_of
+number-found (refused q) = refl
+number-found (got zero) = refl
+number-found (got (suc i)) = refl
+
+-- the number of a refusal too
 pub refusal-number-is : (r : Result (Option ℕ) Refusal) (x : Answer ℕ) → answer_of r ≡ found_of x → refusal_number r ≡ number_of x
-refusal-number-is r x e = number-answered r ∙ ap number_of e ∙ same x
-  where
-    same : (a : Answer ℕ) → number_of (found_of a) ≡ number_of a
-    same (refused q) = unfold number_of found_of in refl
-    same (got zero) = unfold number_of found_of in refl
-    same (got (suc i)) = unfold number_of found_of in refl
+refusal-number-is r x e = number-answered r ∙ ap number_of e ∙ number-found x
 
 -- ---- the check's refusals
 

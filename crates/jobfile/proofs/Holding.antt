@@ -13,7 +13,7 @@ use Rattle.rules.specs.Basics.{choose, at}
 use Rattle.rules.specs.Fields.{Answer, ask, value, whole}
 use Rattle.rules.specs.JobFile.{JobFile, nth_job, counted, with_limit, with_sockets, with_job, with_need, job_of, is_need, giver_of, taker_of, is_job}
 use Rattle.rules.specs.JobFile.{add_need, add_sockets, add_field, content_ok}
-use Rattle.laws.specs.Tests.{tests, T-ltb, T-eqb}
+use Rattle.laws.specs.Tests.{tests, T-ltb}
 use Rattle.laws.specs.Needs.{insert-each}
 use Rattle.needrows.specs.Rows.{row_bytes}
 use Rattle.needrows.specs.Laws.{rows-add, length-add, length-without_row, rows-clear}
@@ -43,14 +43,9 @@ given_is : (b : ℕ) → not (is_some (given b)) ≡ eqb b 0
 given_is zero = refl
 given_is (suc b) = sym (ne_eqb (suc b) 0 (λ e. omega arith))
 
-given-some : (b : ℕ) → 1 ≤ b → Some b ≡ given b
+pub given-some : (b : ℕ) → 1 ≤ b → Some b ≡ given b
 given-some zero h = absurd (omega arith)
 given-some (suc b) h = refl
-
--- a value of tag 9 gives them
-boards-given : (tag : ℕ) (v : List ℕ) → T (content_ok tag v) → T (eqb tag 9) → 1 ≤ at v 0
-unfolding content_ok choose
-boards-given tag v h t = let e = (T-eqb tag 9).0 t in let k = rw e at h in (simp tests at k).0
 
 -- ---- one field more
 
@@ -83,9 +78,9 @@ module _ (bs : List ℕ) (f : JobFile) (s : State) (held : Held bs f s) where
   unfolding with_limit
   limit-held l = recounted (s.fields + 1) (suc f.fields) l l s.sockets f.sockets one_more_lem refl held.sockets-is
 
-  sockets-held : (b : ℕ) → 1 ≤ b → Held bs (with_sockets f b) (one_more s s.limit (Some b))
+  sockets-held : (b : ℕ) → Held bs (with_sockets f b) (one_more s s.limit (given b))
   unfolding with_sockets
-  sockets-held b h = recounted (s.fields + 1) (suc f.fields) s.limit f.limit (Some b) b one_more_lem held.limit_is (given-some b h)
+  sockets-held b = recounted (s.fields + 1) (suc f.fields) s.limit f.limit (given b) b one_more_lem held.limit_is refl
 
   job-held : (a : ℕ) → T (whole bs a) → s.jobs < max_jobs → Held bs (with_job f (job_of (value bs a))) (with_offset s a)
   unfolding with_job
@@ -142,17 +137,17 @@ module _ (bs : List ℕ) (f : JobFile) (s : State) (held : Held bs f s) where
       let w = simp tests at t in
       need-held (g - 1) (k - 1) (omega (arith, w, held.jobs-is)) (omega (arith, w, held.jobs-is)))
 
-  sockets-same : (b : ℕ) → 1 ≤ b → Same bs (add_sockets f b) (take_sockets s b)
+  sockets-same : (b : ℕ) → Same bs (add_sockets f b) (take_sockets s b)
   unfolding add_sockets take_sockets Same
-  sockets-same b h = same-ask bs _ _ 21 _ _ (rw held.sockets-is (sym (given_is f.sockets))) (λ _. sockets-held b h)
+  sockets-same b = same-ask bs _ _ 21 _ _ (rw held.sockets-is (sym (given_is f.sockets))) (λ _. sockets-held b)
 
   -- the rest of a field's questions
   pub field-same : (tag a : ℕ) → T (whole bs a) → Same bs (ask (content_ok tag (value bs a)) 6 (add_field f tag (value bs a))) (take_field s tag a (value bs a))
   unfolding add_field take_field Same
   field-same tag a w =
-      same-ask bs _ _ 6 _ _ refl (λ c.
+      same-ask bs _ _ 6 _ _ refl (λ _.
       same-choose bs (eqb tag 2) _ _ _ _ (λ _. limit-held (at (value bs a) 0))
       (same-choose bs (eqb tag 3) _ _ _ _
       (λ _. same-ask bs _ _ 7 _ _ (rw held.jobs-is refl) (λ t. job-held a w (omega (arith, (T-ltb (length f.jobs) max_jobs).0 t, held.jobs-is))))
       (same-choose bs (is_need tag) _ _ _ _ (λ _. need-same (giver_of tag (value bs a)) (taker_of tag (value bs a)))
-      (same-choose bs (eqb tag 9) _ _ _ _ (λ t. sockets-same (at (value bs a) 0) (boards-given tag (value bs a) c t)) counted-held))))
+      (same-choose bs (eqb tag 9) _ _ _ _ (λ _. sockets-same (at (value bs a) 0)) counted-held))))

@@ -60,7 +60,7 @@ take_need s g k = ask (is_job s.jobs g && (is_job s.jobs k && not (eqb g k))) 8 
 
 -- question 21 of the most boards b
 unfoldable pub take_sockets : State → ℕ → Answer State
-take_sockets s b = ask (not (is_some s.sockets)) 21 (got (one_more s s.limit (Some b)))
+take_sockets s b = ask (not (is_some s.sockets)) 21 (got (one_more s s.limit (given b)))
 
 -- the job whose field starts at offset a, without a taker
 abbrev pub with_offset : State → ℕ → State

@@ -27,7 +27,13 @@ fn is_ready(jobs: usize, number: usize, marked: usize, job: usize) -> bool
     requires { (jobs ≤ 4) × (job < jobs) }
     ensures { result ≡ is_ready jobs number marked job }
 {
-    (0..jobs).all(|giver| !waits(jobs, number, marked, job, giver))
+    // A `for`, and no `all`: this is asked most in all of `small_gates`, and `all` took a third more time there.
+    for giver in 0..jobs {
+        if waits(jobs, number, marked, job, giver) {
+            return false;
+        }
+    }
+    true
 }
 
 // A round: the jobs whose givers were all marked before.

@@ -81,7 +81,13 @@ fn are_kept(jobs: usize, number: usize, starts: &[u8; 4]) -> bool
     requires { (1 ≤ jobs) × (jobs ≤ 4) }
     ensures { result ≡ keeping jobs number starts.now }
 {
-    (0..jobs * jobs).all(|place| is_kept(jobs, number, starts, place))
+    // A `for`, and no `all`, which took a third more time in all of `small_gates`, here and in `numbers::is_ready`.
+    for place in 0..jobs * jobs {
+        if !is_kept(jobs, number, starts, place) {
+            return false;
+        }
+    }
+    true
 }
 
 // The largest start plus one.

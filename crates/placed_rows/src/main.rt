@@ -1,5 +1,5 @@
 // The boards that a lent row of job records gets (slotboards::place_rows): of Figure 1 of document 000, and of eight jobs without needs.
-// Prints for each the boards in the order of the jobs.
+// Prints for each the boards in the order of the jobs, by crate `io` on a file descriptor, as crate `printing` does.
 #![tactic(auto)]
 
 ghost use Rattle.std.specs.Prelude.{◌≡◌, [], ◌<◌};

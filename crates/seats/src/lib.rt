@@ -150,7 +150,11 @@ fn behind(release: u16, limit: usize) -> usize
 fn put_threes(tables: &mut [u16; TABLES])
     ensures { tables.new ≡ with_threes tables.old }
 {
-    tables[THREE..THREE + PLACE_SETS].copy_from_slice(&threes::THREES);
+    // No copy_from_slice: it would be a call of memcpy, and the archive for C needs memset alone.
+    let entries = threes::THREES;
+    for byte in 0..PLACE_SETS {
+        tables[THREE + byte] = entries[byte];
+    }
 }
 
 // The jobs that take places: the rows of their needs, how many they are, their releases and tails, and the limit of the slots.

@@ -1,5 +1,5 @@
 // State numbers (document 02, request 11) of tables of document 01's cases: for each job file a line that says what it is, then the number of each slot, or the
-// refusal.
+// refusal. The text goes out by crate `io` on a file descriptor, as that of crate `printing`.
 #![tactic(auto)]
 
 ghost use Rattle.std.specs.Prelude.{◌≤◌, length};

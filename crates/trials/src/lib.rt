@@ -28,18 +28,29 @@ fn zeroed(answer: Result<usize, u32>) -> usize
     if answer == Err(1) { 0 } else { WORK_BYTES }
 }
 
+// Is each byte this one? (No `all`: it stops at the first that is not, so that the compiler cannot compare many at once.)
+fn all_are(bytes: &[u8], value: u8) -> bool
+    ensures { result ≡ each value bytes.now }
+{
+    let mut so_far = true;
+    for byte in bytes {
+        so_far &= *byte == value;
+    }
+    so_far
+}
+
 // Is each of so many bytes in front this one?
 fn front_is(bytes: &[u8], count: usize, value: u8) -> bool
     ensures { result ≡ each value (take count bytes.now) }
 {
-    bytes.iter().take(count).all(|byte| *byte == value)
+    all_are(&bytes[..count.min(bytes.len())], value)
 }
 
 // Is each byte behind so many this one?
 fn rest_is(bytes: &[u8], count: usize, value: u8) -> bool
     ensures { result ≡ each value (drop count bytes.now) }
 {
-    bytes.iter().skip(count).all(|byte| *byte == value)
+    all_are(&bytes[count.min(bytes.len())..], value)
 }
 
 // Are both buffers as this answer leaves them, where each byte was noise before the call? Those of the working buffer that are used are zero, those of the

@@ -1,7 +1,7 @@
 -- `jobset::Set::count` meets its contract: the iterator gives the members, and they are as many as the size. Assumes nothing.
-use Rattle.std.proofs.Common.{rules, arith, inl, ◌≡◌, ◌≤◌, sym, ap, ◌∙◌, length}
+use Rattle.std.proofs.Common.{rules, arith, inl, ◌≡◌, ◌≤◌, ap, length}
 use Rattle.std.proofs.lemmas.Iterator.Consumers.{count_from_yields_List, YieldsList-from_first}
-use Rattle.jobset.specs.Sets.{members, size}
+use Rattle.jobset.specs.Sets.{members}
 use Rattle.jobset.specs.Size.{size-members, size-most}
 use Rattle.jobset.proofs.Set.count.Goals as goal
 use Rattle.jobset.proofs.Set.count.Goals.{After-into_iter, After-count, at-After-count}
@@ -25,4 +25,6 @@ pub overflow_cast-result : goal.overflow_cast-result
 overflow_cast-result c = let d = goal.at.overflow_cast-result c in omega (arith, counted d.After-count, few (at-After-count d.After-count).After-into_iter)
 
 pub returns : goal.returns
-returns c = counted (goal.at.returns c).After-count ∙ sym (size-members c.args.self (search rules))
+returns c =
+    let d = (goal.at.returns c).After-count in
+    omega (arith, counted d, few (at-After-count d).After-into_iter, size-members c.args.self (search rules))
