@@ -1,8 +1,7 @@
-// The planner's answer to a job file, as a line.
+// The planner's answer to a job file, as a line. Where a piece of it cannot be written, those behind it are tried all the same.
 ghost use Rattle.std.specs.Prelude.{◌≡◌, length};
 
 use sizes::{TABLE_BYTES, WORK_BYTES};
-use std::io;
 
 // What both buffers are full of before a call.
 const NOISE: u8 = 170;
@@ -22,26 +21,25 @@ fn noise_table() -> [u8; TABLE_BYTES]
 }
 
 // A byte behind a blank.
-fn print_byte(rt: &impl Print, byte: u8) -> io::Result<()> {
-    print!(rt; " {byte}")
+fn print_byte(rt: &impl Print, byte: u8) {
+    let _ = print!(rt; " {byte}");
 }
 
 // A name and a value of each job: the byte at this place of its row. Each name has one byte, so a row has eight.
-fn print_each(rt: &impl Print, name: &str, rows: &[u8], place: usize) -> io::Result<()> {
-    print!(rt; "{name}")?;
+fn print_each(rt: &impl Print, name: &str, rows: &[u8], place: usize) {
+    let _ = print!(rt; "{name}");
     for row in rows.chunks_exact(8) {
-        print_byte(rt, row.get(place).copied().unwrap_or(0))?;
+        print_byte(rt, row.get(place).copied().unwrap_or(0));
     }
-    Ok(())
 }
 
 // A table.
-fn print_table(rt: &impl Print, table: &[u8]) -> io::Result<()> {
+fn print_table(rt: &impl Print, table: &[u8]) {
     let [_, _, _, _, slots, boards, rows @ ..] = table else {
-        return Ok(());
+        return;
     };
-    print!(rt; ": slots {slots} boards {boards}")?;
-    print_each(rt, " starts", rows, 3)?;
+    let _ = print!(rt; ": slots {slots} boards {boards}");
+    print_each(rt, " starts", rows, 3);
     print_each(rt, " boards", rows, 4)
 }
 
@@ -52,69 +50,64 @@ fn print_answer(
     file: &[u8],
     table: &[u8],
     answer: Result<usize, u32>,
-) -> io::Result<()> {
-    print!(rt; "{label}")?;
+) {
+    let _ = print!(rt; "{label}");
     match answer {
         Ok(size) => {
             let table = table.get(..size).unwrap_or(table);
-            print_table(rt, table)?;
-            print!(rt; ", check {}", gate::gate_check(file, table))
+            print_table(rt, table);
+            let _ = print!(rt; ", check {}", gate::gate_check(file, table));
         }
-        Err(question) => print!(rt; ": refused {question}"),
+        Err(question) => {
+            let _ = print!(rt; ": refused {question}");
+        }
     }
 }
 
 // The line of a job file with these buffers, which are full of noise: the answer, and whether both are as it leaves them.
-fn plan_in(
-    rt: &impl Print,
-    label: &str,
-    file: &[u8],
-    work: &mut [u8],
-    table: &mut [u8],
-) -> io::Result<()> {
+fn plan_in(rt: &impl Print, label: &str, file: &[u8], work: &mut [u8], table: &mut [u8]) {
     let answer = trials::answer(gate::gate_plan(file, work, table));
-    print_answer(rt, label, file, table, answer)?;
+    print_answer(rt, label, file, table, answer);
     let clean = trials::clean(answer, NOISE, work, table);
-    println!(rt; ", buffers {}", if clean { "ok" } else { "WRONG" })
+    let _ = println!(rt; ", buffers {}", if clean { "ok" } else { "WRONG" });
 }
 
 // The line of a job file.
-pub(crate) fn plan(rt: &impl Print, label: &str, file: &[u8]) -> io::Result<()> {
+pub(crate) fn plan(rt: &impl Print, label: &str, file: &[u8]) {
     let mut work = noise();
     let mut table = noise_table();
     plan_in(rt, label, file, &mut work, &mut table)
 }
 
 // The lines of these files.
-pub(crate) fn plan_each(rt: &impl Print, files: &[(&str, &[u8])]) -> io::Result<()> {
+pub(crate) fn plan_each(rt: &impl Print, files: &[(&str, &[u8])]) {
     for (label, file) in files {
-        plan(rt, label, file)?;
+        plan(rt, label, file);
     }
-    Ok(())
 }
 
 // The line of a job file with a working buffer that is one byte short.
-pub(crate) fn plan_short_work(rt: &impl Print, label: &str, file: &[u8]) -> io::Result<()> {
+pub(crate) fn plan_short_work(rt: &impl Print, label: &str, file: &[u8]) {
     let mut work = [NOISE; WORK_BYTES - 1];
     let mut table = noise_table();
     plan_in(rt, label, file, &mut work, &mut table)
 }
 
 // The line of a job file with a table buffer that is one byte short.
-pub(crate) fn plan_short_table(rt: &impl Print, label: &str, file: &[u8]) -> io::Result<()> {
+pub(crate) fn plan_short_table(rt: &impl Print, label: &str, file: &[u8]) {
     let mut work = noise();
     let mut table = [NOISE; TABLE_BYTES - 1];
     plan_in(rt, label, file, &mut work, &mut table)
 }
 
 // The bytes of a job file's table.
-pub(crate) fn plan_bytes(rt: &impl Print, label: &str, file: &[u8]) -> io::Result<()> {
+pub(crate) fn plan_bytes(rt: &impl Print, label: &str, file: &[u8]) {
     let mut work = noise();
     let mut table = noise_table();
     let answer = trials::answer(gate::gate_plan(file, &mut work, &mut table));
-    print!(rt; "{label}:")?;
+    let _ = print!(rt; "{label}:");
     for byte in table.iter().take(answer.unwrap_or(0)) {
-        print_byte(rt, *byte)?;
+        print_byte(rt, *byte);
     }
-    println!(rt)
+    let _ = println!(rt);
 }

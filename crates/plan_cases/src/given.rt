@@ -4,7 +4,6 @@ ghost use Rattle.std.specs.Prelude.{◌≤◌};
 
 use crate::answers::{plan, plan_bytes, plan_each, plan_short_table, plan_short_work};
 use sizes::MAX_FILE;
-use std::io;
 
 // Bad first fields of a file.
 const FIRST_FIELDS: [(&str, &[u8]); 6] = [
@@ -53,26 +52,26 @@ const WIDE_NEEDS: [(&str, &[u8]); 4] = [
 ];
 
 // Limit 3; jobs of 15, -15 and 4 millimetres with the names a, b and c; needs 1-3 and 2-3.
-fn example(rt: &impl Print) -> io::Result<()> {
+fn example(rt: &impl Print) {
     let file =
         b"\x01\x01\x00\x01\x02\x01\x00\x03\x03\x03\x00\x0f\x00a\x03\x03\x00\xf1\xffb\x03\x03\x00\x04\x00c\x04\x02\x00\x01\x03\x04\x02\x00\x02\x03";
-    plan(rt, "the example", file)?;
-    plan_bytes(rt, "its table", file)?;
-    plan_short_work(rt, "1 a working buffer of 65535", file)?;
+    plan(rt, "the example", file);
+    plan_bytes(rt, "its table", file);
+    plan_short_work(rt, "1 a working buffer of 65535", file);
     plan_short_table(rt, "1 a table buffer of 7605", file)
 }
 
 // Limit 1; jobs a to h, each with an exact half of a centimetre: 25, 35, -25, 15, 5, -5, 45 and -15 millimetres.
-fn halves(rt: &impl Print) -> io::Result<()> {
+fn halves(rt: &impl Print) {
     let file =
         b"\x01\x01\x00\x01\x02\x01\x00\x01\x03\x03\x00\x19\x00a\x03\x03\x00\x23\x00b\x03\x03\x00\xe7\xffc\x03\x03\x00\x0f\x00d\
         \x03\x03\x00\x05\x00e\x03\x03\x00\xfb\xfff\x03\x03\x00\x2d\x00g\x03\x03\x00\xf1\xffh";
-    plan(rt, "exact halves", file)?;
+    plan(rt, "exact halves", file);
     plan_bytes(rt, "its table", file)
 }
 
 // The line of a file of so many bytes, which begins with these.
-fn plan_padded(rt: &impl Print, label: &str, front: &[u8; 17], size: usize) -> io::Result<()>
+fn plan_padded(rt: &impl Print, label: &str, front: &[u8; 17], size: usize)
     requires { size ≤ 49153 }
 {
     let mut file = [0; MAX_FILE + 1];
@@ -81,13 +80,13 @@ fn plan_padded(rt: &impl Print, label: &str, front: &[u8; 17], size: usize) -> i
 }
 
 // One job, limit 1, and a comment up to the last byte that a file may have; and the same with a comment that is one byte longer.
-fn longest(rt: &impl Print) -> io::Result<()> {
+fn longest(rt: &impl Print) {
     plan_padded(
         rt,
         "a file of 49152 bytes",
         b"\x01\x01\x00\x01\x02\x01\x00\x01\x03\x03\x00\x0f\x00a\x05\xef\xbf",
         MAX_FILE,
-    )?;
+    );
     plan_padded(
         rt,
         "2 a file of 49153 bytes",
@@ -96,11 +95,11 @@ fn longest(rt: &impl Print) -> io::Result<()> {
     )
 }
 
-pub(crate) fn all(rt: &impl Print) -> io::Result<()> {
-    example(rt)?;
-    halves(rt)?;
-    plan_each(rt, &FIRST_FIELDS)?;
-    plan_each(rt, &LATER_FIELDS)?;
-    plan_each(rt, &WIDE_NEEDS)?;
+pub(crate) fn all(rt: &impl Print) {
+    example(rt);
+    halves(rt);
+    plan_each(rt, &FIRST_FIELDS);
+    plan_each(rt, &LATER_FIELDS);
+    plan_each(rt, &WIDE_NEEDS);
     longest(rt)
 }

@@ -4,7 +4,6 @@ ghost use Rattle.std.specs.Prelude.{◌≤◌};
 use crate::answers::{plan, plan_each};
 use crate::paper::{put_needs, with_needs};
 use sizes::TABLE_BYTES;
-use std::io;
 
 // Needs 2-3, 3-4 and 5-4.
 const NEEDS: [(u8, u8); 3] = [(2, 3), (3, 4), (5, 4)];
@@ -41,7 +40,7 @@ fn with_sockets(
     jobs: usize,
     boards: u8,
     needs: &[(u8, u8)],
-) -> io::Result<()>
+)
     requires { jobs ≤ 401 }
 {
     let mut file = [0; TABLE_BYTES];
@@ -52,25 +51,25 @@ fn with_sockets(
 }
 
 // Five jobs with limit 5: two boards hold job 1 back.
-fn five(rt: &impl Print, label: &str, boards: u8) -> io::Result<()> {
+fn five(rt: &impl Print, label: &str, boards: u8) {
     with_sockets(rt, label, 5, 5, boards, &NEEDS)
 }
 
-fn planned(rt: &impl Print) -> io::Result<()> {
-    with_needs(rt, "five jobs without tag 9", 5, 5, &NEEDS)?;
-    five(rt, "five jobs, tag 9 with 8", 8)?;
-    five(rt, "five jobs, tag 9 with 3", 3)?;
-    five(rt, "five jobs, tag 9 with 2", 2)?;
+fn planned(rt: &impl Print) {
+    with_needs(rt, "five jobs without tag 9", 5, 5, &NEEDS);
+    five(rt, "five jobs, tag 9 with 8", 8);
+    five(rt, "five jobs, tag 9 with 3", 3);
+    five(rt, "five jobs, tag 9 with 2", 2);
     five(rt, "five jobs, tag 9 with 1", 1)
 }
 
-fn without_needs(rt: &impl Print) -> io::Result<()> {
-    with_sockets(rt, "13 three jobs, tag 9 with 1, limit 2", 2, 3, 1, &[])?;
+fn without_needs(rt: &impl Print) {
+    with_sockets(rt, "13 three jobs, tag 9 with 1, limit 2", 2, 3, 1, &[]);
     with_sockets(rt, "12 nine jobs, tag 9 with 2, limit 1", 1, 9, 2, &[])
 }
 
-pub(crate) fn all(rt: &impl Print) -> io::Result<()> {
-    planned(rt)?;
-    without_needs(rt)?;
+pub(crate) fn all(rt: &impl Print) {
+    planned(rt);
+    without_needs(rt);
     plan_each(rt, &REFUSED)
 }

@@ -1,5 +1,4 @@
 // The check on the job file of document 01's example and its table, with bytes of the table changed, and of a level in the file.
-use std::io;
 
 // Needs 1-3, 2-3, limit 3.
 pub const FILE: [u8; 36] = [
@@ -111,23 +110,23 @@ const FILES: [(&str, &[u8]); 8] = [
     ),
 ];
 
-// A line with a number.
-pub(crate) fn show(rt: &impl Print, label: &str, number: u32) -> io::Result<()> {
-    println!(rt; "{label}: {number}")
+// A line with a number. Where it cannot be written, those behind it are tried all the same.
+pub(crate) fn show(rt: &impl Print, label: &str, number: u32) {
+    let _ = println!(rt; "{label}: {number}");
 }
 
 // The line of the check of a file and a table.
-fn check(rt: &impl Print, label: &str, file: &[u8], table: &[u8]) -> io::Result<()> {
+fn check(rt: &impl Print, label: &str, file: &[u8], table: &[u8]) {
     show(rt, label, gate::gate_check(file, table))
 }
 
 // Another table for the example.
-fn other(rt: &impl Print, label: &str, table: &[u8]) -> io::Result<()> {
+fn other(rt: &impl Print, label: &str, table: &[u8]) {
     check(rt, label, &FILE, table)
 }
 
 // The example's table with bytes changed.
-fn changed(rt: &impl Print, label: &str, changes: &[(usize, u8)]) -> io::Result<()> {
+fn changed(rt: &impl Print, label: &str, changes: &[(usize, u8)]) {
     let mut table = TABLE;
     for (place, byte) in changes {
         if let Some(old) = table.get_mut(*place) {
@@ -137,25 +136,23 @@ fn changed(rt: &impl Print, label: &str, changes: &[(usize, u8)]) -> io::Result<
     other(rt, label, &table)
 }
 
-fn decoding(rt: &impl Print) -> io::Result<()> {
+fn decoding(rt: &impl Print) {
     for (label, changes) in DECODING {
-        changed(rt, label, changes)?;
+        changed(rt, label, changes);
     }
     for (label, table) in DECODED {
-        other(rt, label, table)?;
+        other(rt, label, table);
     }
-    Ok(())
 }
 
-fn sizes(rt: &impl Print) -> io::Result<()> {
+fn sizes(rt: &impl Print) {
     for (label, changes) in SIZES {
-        changed(rt, label, changes)?;
+        changed(rt, label, changes);
     }
-    Ok(())
 }
 
 // The example with another level of job 1, in millimetres, and a table with other centimetres for it.
-fn level(rt: &impl Print, label: &str, millimetres: i16, centimetres: i16) -> io::Result<()> {
+fn level(rt: &impl Print, label: &str, millimetres: i16, centimetres: i16) {
     let mut file = FILE;
     let mut table = TABLE;
     file[11..13].copy_from_slice(&millimetres.to_le_bytes());
@@ -163,26 +160,25 @@ fn level(rt: &impl Print, label: &str, millimetres: i16, centimetres: i16) -> io
     check(rt, label, &file, &table)
 }
 
-fn halves(rt: &impl Print) -> io::Result<()> {
+fn halves(rt: &impl Print) {
     for (label, millimetres, centimetres) in HALVES {
-        level(rt, label, millimetres, centimetres)?;
+        level(rt, label, millimetres, centimetres);
     }
-    Ok(())
 }
 
-fn cells(rt: &impl Print) -> io::Result<()> {
-    changed(rt, "17 one slot and board", &[(18, 1), (5, 1)])?;
-    changed(rt, "18 the next slot on another board", &[(25, 1), (4, 2)])?;
+fn cells(rt: &impl Print) {
+    changed(rt, "17 one slot and board", &[(18, 1), (5, 1)]);
+    changed(rt, "18 the next slot on another board", &[(25, 1), (4, 2)]);
     other(
         rt,
         "18 the slot of its givers",
         b"\x10\x03\x00\x01\x01\x03\x11\x05\x00\x00\x01\x02\x00a\x11\x05\x00\x00\x02\xfe\xffb\x11\x05\x00\x00\x03\x00\x00c",
-    )?;
+    );
     other(
         rt,
         "starts 0 1 2 on one board",
         b"\x10\x03\x00\x01\x03\x01\x11\x05\x00\x00\x01\x02\x00a\x11\x05\x00\x01\x01\xfe\xffb\x11\x05\x00\x02\x01\x00\x00c",
-    )?;
+    );
     other(
         rt,
         "boards that the planner does not give",
@@ -190,7 +186,7 @@ fn cells(rt: &impl Print) -> io::Result<()> {
     )
 }
 
-fn takers(rt: &impl Print) -> io::Result<()> {
+fn takers(rt: &impl Print) {
     let needs =
         b"\x01\x01\x00\x01\x02\x01\x00\x03\x03\x03\x00\x0f\x00a\x03\x03\x00\xf1\xffb\x03\x03\x00\x04\x00c\x04\x02\x00\x01\x02\x04\x02\x00\x01\x03";
     check(
@@ -198,7 +194,7 @@ fn takers(rt: &impl Print) -> io::Result<()> {
         "18 two takers in the next slot",
         needs,
         b"\x10\x03\x00\x01\x02\x02\x11\x05\x00\x00\x01\x02\x00a\x11\x05\x00\x01\x01\xfe\xffb\x11\x05\x00\x01\x02\x00\x00c",
-    )?;
+    );
     check(
         rt,
         "two takers, one after the other",
@@ -207,32 +203,31 @@ fn takers(rt: &impl Print) -> io::Result<()> {
     )
 }
 
-fn files(rt: &impl Print) -> io::Result<()> {
+fn files(rt: &impl Print) {
     for (label, file) in FILES {
-        check(rt, label, file, &TABLE)?;
+        check(rt, label, file, &TABLE);
     }
-    Ok(())
 }
 
 // Starts 0 0 2 on three boards, for the example with tag 9 and without.
-fn three_boards(rt: &impl Print) -> io::Result<()> {
+fn three_boards(rt: &impl Print) {
     let table =
         b"\x10\x03\x00\x01\x03\x03\x11\x05\x00\x00\x01\x02\x00a\x11\x05\x00\x00\x02\xfe\xffb\x11\x05\x00\x02\x03\x00\x00c";
     let two =
         b"\x01\x01\0\x01\x02\x01\0\x03\x03\x03\0\x0f\0a\x03\x03\0\xf1\xffb\x03\x03\0\x04\0c\x04\x02\0\x01\x03\x04\x02\0\x02\x03\x09\x01\0\x02";
-    check(rt, "two boards, tag 9 with 2", two, &TABLE)?;
-    check(rt, "16 three boards, tag 9 with 2", two, table)?;
-    other(rt, "three boards without tag 9", table)?;
+    check(rt, "two boards, tag 9 with 2", two, &TABLE);
+    check(rt, "16 three boards, tag 9 with 2", two, table);
+    other(rt, "three boards without tag 9", table);
     show(rt, "  in slot 2 on board 3", gate::gate_lookup(table, 2, 3))
 }
 
-pub(crate) fn all(rt: &impl Print) -> io::Result<()> {
-    other(rt, "the example", &TABLE)?;
-    decoding(rt)?;
-    sizes(rt)?;
-    halves(rt)?;
-    cells(rt)?;
-    takers(rt)?;
-    files(rt)?;
+pub(crate) fn all(rt: &impl Print) {
+    other(rt, "the example", &TABLE);
+    decoding(rt);
+    sizes(rt);
+    halves(rt);
+    cells(rt);
+    takers(rt);
+    files(rt);
     three_boards(rt)
 }
