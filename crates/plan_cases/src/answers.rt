@@ -40,7 +40,7 @@ fn print_table(rt: &impl Print, table: &[u8]) {
     };
     let _ = print!(rt; ": slots {slots} boards {boards}");
     print_each(rt, " starts", rows, 3);
-    print_each(rt, " boards", rows, 4)
+    print_each(rt, " boards", rows, 4);
 }
 
 // The label, and the table with what the check says of it or the refusal.
@@ -76,7 +76,7 @@ fn plan_in(rt: &impl Print, label: &str, file: &[u8], work: &mut [u8], table: &m
 pub(crate) fn plan(rt: &impl Print, label: &str, file: &[u8]) {
     let mut work = noise();
     let mut table = noise_table();
-    plan_in(rt, label, file, &mut work, &mut table)
+    plan_in(rt, label, file, &mut work, &mut table);
 }
 
 // The lines of these files.
@@ -90,14 +90,14 @@ pub(crate) fn plan_each(rt: &impl Print, files: &[(&str, &[u8])]) {
 pub(crate) fn plan_short_work(rt: &impl Print, label: &str, file: &[u8]) {
     let mut work = [NOISE; WORK_BYTES - 1];
     let mut table = noise_table();
-    plan_in(rt, label, file, &mut work, &mut table)
+    plan_in(rt, label, file, &mut work, &mut table);
 }
 
 // The line of a job file with a table buffer that is one byte short.
 pub(crate) fn plan_short_table(rt: &impl Print, label: &str, file: &[u8]) {
     let mut work = noise();
     let mut table = [NOISE; TABLE_BYTES - 1];
-    plan_in(rt, label, file, &mut work, &mut table)
+    plan_in(rt, label, file, &mut work, &mut table);
 }
 
 // The bytes of a job file's table.

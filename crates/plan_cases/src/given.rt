@@ -58,7 +58,7 @@ fn example(rt: &impl Print) {
     plan(rt, "the example", file);
     plan_bytes(rt, "its table", file);
     plan_short_work(rt, "1 a working buffer of 65535", file);
-    plan_short_table(rt, "1 a table buffer of 7605", file)
+    plan_short_table(rt, "1 a table buffer of 7605", file);
 }
 
 // Limit 1; jobs a to h, each with an exact half of a centimetre: 25, 35, -25, 15, 5, -5, 45 and -15 millimetres.
@@ -67,7 +67,7 @@ fn halves(rt: &impl Print) {
         b"\x01\x01\x00\x01\x02\x01\x00\x01\x03\x03\x00\x19\x00a\x03\x03\x00\x23\x00b\x03\x03\x00\xe7\xffc\x03\x03\x00\x0f\x00d\
         \x03\x03\x00\x05\x00e\x03\x03\x00\xfb\xfff\x03\x03\x00\x2d\x00g\x03\x03\x00\xf1\xffh";
     plan(rt, "exact halves", file);
-    plan_bytes(rt, "its table", file)
+    plan_bytes(rt, "its table", file);
 }
 
 // The line of a file of so many bytes, which begins with these.
@@ -76,7 +76,7 @@ fn plan_padded(rt: &impl Print, label: &str, front: &[u8; 17], size: usize)
 {
     let mut file = [0; MAX_FILE + 1];
     file[..17].copy_from_slice(front);
-    plan(rt, label, &file[..size])
+    plan(rt, label, &file[..size]);
 }
 
 // One job, limit 1, and a comment up to the last byte that a file may have; and the same with a comment that is one byte longer.
@@ -92,7 +92,7 @@ fn longest(rt: &impl Print) {
         "2 a file of 49153 bytes",
         b"\x01\x01\x00\x01\x02\x01\x00\x01\x03\x03\x00\x0f\x00a\x05\xf0\xbf",
         MAX_FILE + 1,
-    )
+    );
 }
 
 pub(crate) fn all(rt: &impl Print) {
@@ -101,5 +101,5 @@ pub(crate) fn all(rt: &impl Print) {
     plan_each(rt, &FIRST_FIELDS);
     plan_each(rt, &LATER_FIELDS);
     plan_each(rt, &WIDE_NEEDS);
-    longest(rt)
+    longest(rt);
 }

@@ -23,7 +23,7 @@ pub(crate) fn with_needs(rt: &impl Print, label: &str, limit: u8, jobs: usize, n
     let mut file = [0; TABLE_BYTES];
     let end = drafts::put_jobs(&mut file, limit, jobs);
     let size = put_needs(&mut file, end, needs);
-    plan(rt, label, drafts::front(&file, size))
+    plan(rt, label, drafts::front(&file, size));
 }
 
 // So many chains side by side, of so many jobs in all.
@@ -33,32 +33,32 @@ fn side_by_side(rt: &impl Print, label: &str, limit: u8, chains: u16, jobs: u16)
     let mut file = [0; TABLE_BYTES];
     let end = drafts::put_jobs(&mut file, limit, usize::from(jobs));
     let size = drafts::put_chains(&mut file, end, chains, jobs);
-    plan(rt, label, drafts::front(&file, size))
+    plan(rt, label, drafts::front(&file, size));
 }
 
 // A chain of so many jobs.
 fn chain(rt: &impl Print, label: &str, limit: u8, jobs: u16)
     requires { jobs ≤ 401 }
 {
-    side_by_side(rt, label, limit, 1, jobs)
+    side_by_side(rt, label, limit, 1, jobs);
 }
 
 fn one(rt: &impl Print) {
     with_needs(rt, "one job, limit 1", 1, 1, &[]);
-    with_needs(rt, "one job, limit 64", 64, 1, &[])
+    with_needs(rt, "one job, limit 64", 64, 1, &[]);
 }
 
 fn three(rt: &impl Print) {
     with_needs(rt, "needs 1-2 1-3, limit 3", 3, 3, &[(1, 2), (1, 3)]);
     with_needs(rt, "needs 1-2 1-3, limit 2", 2, 3, &[(1, 2), (1, 3)]);
     with_needs(rt, "needs 1-3 2-3, limit 3", 3, 3, &[(1, 3), (2, 3)]);
-    with_needs(rt, "needs 1-2 2-1, limit 64", 64, 2, &[(1, 2), (2, 1)])
+    with_needs(rt, "needs 1-2 2-1, limit 64", 64, 2, &[(1, 2), (2, 1)]);
 }
 
 fn refused(rt: &impl Print) {
     with_needs(rt, "8 a need of the third of two jobs", 64, 2, &[(1, 3)]);
     with_needs(rt, "8 a need of a job for itself", 64, 2, &[(2, 2)]);
-    with_needs(rt, "8 a need of job 0", 64, 2, &[(1, 2), (0, 2)])
+    with_needs(rt, "8 a need of job 0", 64, 2, &[(1, 2), (0, 2)]);
 }
 
 fn repeated(rt: &impl Print) {
@@ -77,7 +77,7 @@ fn repeated(rt: &impl Print) {
         64,
         2,
         &[(1, 2), (2, 1), (1, 2)],
-    )
+    );
 }
 
 fn figure(rt: &impl Print, label: &str, limit: u8) {
@@ -96,7 +96,7 @@ fn figure(rt: &impl Print, label: &str, limit: u8) {
             (5, 7),
             (5, 8),
         ],
-    )
+    );
 }
 
 fn wide(rt: &impl Print) {
@@ -104,7 +104,7 @@ fn wide(rt: &impl Print) {
     with_needs(rt, "nine jobs, limit 1", 1, 9, &[]);
     with_needs(rt, "65 jobs, limit 64", 64, 65, &[]);
     with_needs(rt, "400 jobs, limit 64", 64, 400, &[]);
-    with_needs(rt, "401 jobs, limit 64", 64, 401, &[])
+    with_needs(rt, "401 jobs, limit 64", 64, 401, &[]);
 }
 
 fn chains(rt: &impl Print) {
@@ -114,14 +114,14 @@ fn chains(rt: &impl Print) {
     chain(rt, "a chain of 64, limit 64", 64, 64);
     chain(rt, "a chain of 65, limit 64", 64, 65);
     chain(rt, "a chain of 400, limit 64", 64, 400);
-    chain(rt, "a chain of 401, limit 64", 64, 401)
+    chain(rt, "a chain of 401, limit 64", 64, 401);
 }
 
 // Four hundred jobs: with limit 50 each has a window of one slot, with limit 51 of two, with limit 49 of none.
 fn eight_chains(rt: &impl Print) {
     side_by_side(rt, "eight chains of 50, limit 50", 50, 8, 400);
     side_by_side(rt, "eight chains of 50, limit 51", 51, 8, 400);
-    side_by_side(rt, "eight chains of 50, limit 49", 49, 8, 400)
+    side_by_side(rt, "eight chains of 50, limit 49", 49, 8, 400);
 }
 
 pub(crate) fn all(rt: &impl Print) {
@@ -133,5 +133,5 @@ pub(crate) fn all(rt: &impl Print) {
     chains(rt);
     eight_chains(rt);
     refused(rt);
-    repeated(rt)
+    repeated(rt);
 }

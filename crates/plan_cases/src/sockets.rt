@@ -47,12 +47,12 @@ fn with_sockets(
     let end = drafts::put_jobs(&mut file, limit, jobs);
     let from = drafts::put_sockets(&mut file, end, boards);
     let size = put_needs(&mut file, from, needs);
-    plan(rt, label, drafts::front(&file, size))
+    plan(rt, label, drafts::front(&file, size));
 }
 
 // Five jobs with limit 5: two boards hold job 1 back.
 fn five(rt: &impl Print, label: &str, boards: u8) {
-    with_sockets(rt, label, 5, 5, boards, &NEEDS)
+    with_sockets(rt, label, 5, 5, boards, &NEEDS);
 }
 
 fn planned(rt: &impl Print) {
@@ -60,16 +60,16 @@ fn planned(rt: &impl Print) {
     five(rt, "five jobs, tag 9 with 8", 8);
     five(rt, "five jobs, tag 9 with 3", 3);
     five(rt, "five jobs, tag 9 with 2", 2);
-    five(rt, "five jobs, tag 9 with 1", 1)
+    five(rt, "five jobs, tag 9 with 1", 1);
 }
 
 fn without_needs(rt: &impl Print) {
     with_sockets(rt, "13 three jobs, tag 9 with 1, limit 2", 2, 3, 1, &[]);
-    with_sockets(rt, "12 nine jobs, tag 9 with 2, limit 1", 1, 9, 2, &[])
+    with_sockets(rt, "12 nine jobs, tag 9 with 2, limit 1", 1, 9, 2, &[]);
 }
 
 pub(crate) fn all(rt: &impl Print) {
     planned(rt);
     without_needs(rt);
-    plan_each(rt, &REFUSED)
+    plan_each(rt, &REFUSED);
 }

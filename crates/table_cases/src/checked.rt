@@ -117,12 +117,12 @@ pub(crate) fn show(rt: &impl Print, label: &str, number: u32) {
 
 // The line of the check of a file and a table.
 fn check(rt: &impl Print, label: &str, file: &[u8], table: &[u8]) {
-    show(rt, label, gate::gate_check(file, table))
+    show(rt, label, gate::gate_check(file, table));
 }
 
 // Another table for the example.
 fn other(rt: &impl Print, label: &str, table: &[u8]) {
-    check(rt, label, &FILE, table)
+    check(rt, label, &FILE, table);
 }
 
 // The example's table with bytes changed.
@@ -133,7 +133,7 @@ fn changed(rt: &impl Print, label: &str, changes: &[(usize, u8)]) {
             *old = *byte;
         }
     }
-    other(rt, label, &table)
+    other(rt, label, &table);
 }
 
 fn decoding(rt: &impl Print) {
@@ -157,7 +157,7 @@ fn level(rt: &impl Print, label: &str, millimetres: i16, centimetres: i16) {
     let mut table = TABLE;
     file[11..13].copy_from_slice(&millimetres.to_le_bytes());
     table[11..13].copy_from_slice(&centimetres.to_le_bytes());
-    check(rt, label, &file, &table)
+    check(rt, label, &file, &table);
 }
 
 fn halves(rt: &impl Print) {
@@ -183,7 +183,7 @@ fn cells(rt: &impl Print) {
         rt,
         "boards that the planner does not give",
         b"\x10\x03\x00\x01\x03\x07\x11\x05\x00\x00\x03\x02\x00a\x11\x05\x00\x00\x01\xfe\xffb\x11\x05\x00\x02\x07\x00\x00c",
-    )
+    );
 }
 
 fn takers(rt: &impl Print) {
@@ -200,7 +200,7 @@ fn takers(rt: &impl Print) {
         "two takers, one after the other",
         needs,
         b"\x10\x03\x00\x01\x03\x01\x11\x05\x00\x00\x01\x02\x00a\x11\x05\x00\x01\x01\xfe\xffb\x11\x05\x00\x02\x01\x00\x00c",
-    )
+    );
 }
 
 fn files(rt: &impl Print) {
@@ -218,7 +218,7 @@ fn three_boards(rt: &impl Print) {
     check(rt, "two boards, tag 9 with 2", two, &TABLE);
     check(rt, "16 three boards, tag 9 with 2", two, table);
     other(rt, "three boards without tag 9", table);
-    show(rt, "  in slot 2 on board 3", gate::gate_lookup(table, 2, 3))
+    show(rt, "  in slot 2 on board 3", gate::gate_lookup(table, 2, 3));
 }
 
 pub(crate) fn all(rt: &impl Print) {
@@ -229,5 +229,5 @@ pub(crate) fn all(rt: &impl Print) {
     cells(rt);
     takers(rt);
     files(rt);
-    three_boards(rt)
+    three_boards(rt);
 }

@@ -42,7 +42,7 @@ fn answers(
 ) {
     show(rt, label, gate::gate_check(file, table));
     show(rt, cell, gate::gate_lookup(table, slot, board));
-    show(rt, "  name at", gate::gate_name_at(table, slot, board))
+    show(rt, "  name at", gate::gate_name_at(table, slot, board));
 }
 
 // A chain of so many jobs with limit 64, and a table with a row for each in the next slot.
@@ -62,7 +62,7 @@ fn chain(rt: &impl Print, label: &str, jobs: u16, rows: usize, slots: u8)
         "  in slot 63",
         63,
         1,
-    )
+    );
 }
 
 // Eight chains side by side, of so many jobs in all, and a table with eight rows in each slot, where the rows of jobs 392 and 400 have these starts.
@@ -92,7 +92,7 @@ fn eight_chains(
         "  in slot 49 on board 8",
         49,
         8,
-    )
+    );
 }
 
 // Nine jobs without needs: the planner refuses the file by question 12.
@@ -109,7 +109,7 @@ fn wide(rt: &impl Print) {
         "  in slot 63",
         63,
         1,
-    )
+    );
 }
 
 pub(crate) fn all(rt: &impl Print) {
@@ -128,5 +128,5 @@ pub(crate) fn all(rt: &impl Print) {
     );
     eight_chains(rt, "14 400 jobs, 401 rows", 400, 401, 51, 48, 49);
     eight_chains(rt, "7 401 jobs", 401, 400, 50, 48, 49);
-    wide(rt)
+    wide(rt);
 }

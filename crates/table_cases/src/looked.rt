@@ -45,7 +45,7 @@ const TABLES: [(&str, &[u8]); 7] = [
 // The lines of a table: the answer and the name's place.
 fn look(rt: &impl Print, label: &str, table: &[u8], slot: usize, board: usize) {
     show(rt, label, gate::gate_lookup(table, slot, board));
-    show(rt, "  name at", gate::gate_name_at(table, slot, board))
+    show(rt, "  name at", gate::gate_name_at(table, slot, board));
 }
 
 // The name as a line.
